@@ -7,10 +7,18 @@ mod write;
 
 pub use bundle::BundleRef;
 pub use bundle::Damage;
+pub use bundle::DamageDebug;
+pub use bundle::DamagePartialEq;
 pub use bundle::Fault;
+pub use bundle::FaultDebug;
+pub use bundle::FaultPartialEq;
 pub use bundle::Found;
+pub use bundle::LONGEST_NAME;
 pub use bundle::Refusal;
+pub use bundle::RefusalDebug;
+pub use bundle::RefusalPartialEq;
 pub use bundle::Span;
+pub use bundle::TRAILER;
 pub use read::check;
 pub use read::find;
 pub use read::last;

@@ -11,25 +11,5 @@ pub fn example() -> [u8; 19]
     ensures bytes { λ r. ⌜ r ≡ 0x41 ∷ (codes "/a" ++ trailer 3 2) ⌝ }
     ensures volume { λ r. ⌜ Volume r (record { entity = 0x41 ∷ []; name = codes "/a" } ∷ []) ⌝ }
 {
-    [
-        0x41,
-        0x2F,
-        0x61,
-        0,
-        0,
-        0,
-        0,
-        0,
-        0,
-        0,
-        3,
-        0,
-        2,
-        0,
-        0,
-        0x48,
-        0x41,
-        0x4C,
-        0x4C,
-    ]
+    *b"A/a\0\0\0\0\0\0\0\x03\0\x02\0\0HALL"
 }
