@@ -2,10 +2,10 @@
 use mathlib.Core.Path.{_≡_, refl, sym, ap, subst, _∙_}
 use mathlib.Core.Logic.{inl, inr}
 use mathlib.Core.Bool.{Bool, true, false, not, cond, _&&_, _||_}
-use mathlib.Core.List.{List, [], _∷_, _++_, map}
+use mathlib.Core.List.{List, [], _∷_, _++_, append-assoc, append-nil, map}
 use Prim.Native.Nat.{ℕ, zero, suc, _+_, _*_, _/_, _%_, _^_, _<_, _≤_}
 use native.Mathlib.Omega.{arith}
-use native.Mathlib.Nat.{pow-suc}
+use native.Mathlib.Nat.{div-div-eq-div-mul, mul-comm, pow-suc}
 use lib.Dec.{eqb, ltb}
 use lib.ListN.{length, getD, take, drop, length-take, length-drop, length-append}
 use Rattle.std.proofs.shelf.Digits.{digits-push, value-push}
@@ -32,6 +32,7 @@ both-none None = refl
 both-none (Some n) = refl
 
 pub not-long : (s : List ℕ) → (length s ≡ 38 → ⊥) → idOf s ≡ None
+unfolding idOf
 not-long s h =
     let site = partOf siteShape (take 19 s) in
     ap (both site) (cond-false _ _ _ (uneven serialShape (drop 19 s) (λ e. h (omega (arith, length-drop 19 s, e))))) ∙ both-none site
@@ -94,6 +95,7 @@ part-upper : (ps bs : List ℕ) → plains ps ≡ true → partOf ps (map upper 
 part-upper ps bs h = λ j. cond (fits-upper ps bs h j) (Some ((ap (value 16) (digits-upper ps bs) ∙ after-upper 0 (digitsAt ps bs)) j)) None
 
 id-upper : (s : List ℕ) → idOf (map upper s) ≡ idOf s
+unfolding idOf
 id-upper s =
     (λ j. both (partOf siteShape (take-map upper 19 s j)) (partOf serialShape (drop-map upper 19 s j)))
     ∙ (λ j. both (part-upper siteShape (take 19 s) refl j) (part-upper serialShape (drop 19 s) refl j))
@@ -164,14 +166,17 @@ out-of-shape (p ∷ ps) (b ∷ bs) h t =
 -- the digits of a number
 
 pub length-hexes : (k n : ℕ) → length (hexes k n) ≡ k
+unfolding hexes
 length-hexes zero n = refl
 length-hexes (suc k) n = length-push (hexes k (n / 16)) _ ∙ omega (arith, length-hexes k (n / 16))
 
 digits-hexes : (k n : ℕ) → Digits 16 (hexes k n)
+unfolding hexes
 digits-hexes zero n = tt
 digits-hexes (suc k) n = digits-push 16 (hexes k (n / 16)) _ (digits-hexes k (n / 16)) (omega (arith, hex-value (n % 16) (omega arith)))
 
 pub value-hexes : (k n : ℕ) → n < 16 ^ k → value 16 (hexes k n) ≡ n
+unfolding hexes
 value-hexes zero n h = omega arith
 value-hexes (suc k) n h =
     let front = value-hexes k (n / 16) (omega (arith, pow-suc 16 k)) in
@@ -182,6 +187,7 @@ digits-parts [] d h = (tt, h .0)
 digits-parts (c ∷ cs) d h = let rest = digits-parts cs d (h .1) in ((h .0, rest .0), rest .1)
 
 hexes-value : (k : ℕ) (ds : List ℕ) → length ds ≡ k → Digits 16 ds → hexes k (value 16 ds) ≡ map upper ds
+unfolding hexes
 hexes-value zero [] e h = refl
 hexes-value zero (d ∷ ds) e h = absurd (omega arith)
 hexes-value (suc k) ds e h =
@@ -205,6 +211,7 @@ part-read ps n e =
     cond-true _ _ _ (put .0) ∙ ap (λ l. Some (value 16 l)) (put .1)
 
 id-read : (id : SessionId) → idOf (idText id) ≡ Some (record { site = value 16 (hexes 16 (id .site)); serial = value 16 (hexes 16 (id .serial)) })
+unfolding idOf idText
 id-read id =
     let front = filled siteShape (hexes 16 (id .site)) in
     let back = filled serialShape (hexes 16 (id .serial)) in
@@ -235,6 +242,7 @@ both-found (Some a) (Some b) id e =
     (ap (λ (i : SessionId). Some (i .site)) same, ap (λ (i : SessionId). Some (i .serial)) same)
 
 id-found : (s : List ℕ) (id : SessionId) → idOf s ≡ Some id → map upper s ≡ idText id
+unfolding idOf idText
 id-found s id e =
     let parts = both-found (partOf siteShape (take 19 s)) (partOf serialShape (drop 19 s)) id e in
     let front = part-found siteShape (take 19 s) (id .site) refl refl (parts .0) in
@@ -252,3 +260,16 @@ reads-id s r e = record {
   again = λ id h w. e ∙ ap idOf w ∙ id-again id h;
   apart = λ id other h k w v. id-apart id other h k (sym w ∙ v);
 }
+
+-- the last digits of a number, after those before them
+pub hexes-split : (m k j n : ℕ) → j ≡ m + k → hexes j n ≡ hexes m (n / 16 ^ k) ++ hexes k n
+unfolding hexes
+hexes-split m zero j n e =
+    let same : j ≡ m = omega arith in
+    let whole : n ≡ n / 1 = omega arith in
+    (λ i. hexes (same i) (whole i)) ∙ sym (append-nil (hexes m (n / 1)))
+hexes-split m (suc k) zero n e = absurd (omega arith)
+hexes-split m (suc k) (suc j) n e =
+    let deep : n / 16 / 16 ^ k ≡ n / 16 ^ suc k = div-div-eq-div-mul n 16 (16 ^ k) ∙ ap (λ d. n / d) (mul-comm 16 (16 ^ k) ∙ sym (pow-suc 16 k)) in
+    let front = hexes-split m k j (n / 16) (omega arith) in
+    ap (λ l. l ++ hexDigit (n % 16) ∷ []) (front ∙ ap (λ q. hexes m q ++ hexes k (n / 16)) deep) ∙ append-assoc (hexes m (n / 16 ^ suc k)) (hexes k (n / 16)) _

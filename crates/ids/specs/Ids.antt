@@ -44,7 +44,7 @@ both (Some site) None = None
 both (Some site) (Some serial) = Some (record { site = site; serial = serial })
 
 -- the id that a text writes
-abbrev pub idOf : List ℕ → Option SessionId
+unfoldable pub idOf : List ℕ → Option SessionId
 idOf s = both (partOf siteShape (take 19 s)) (partOf serialShape (drop 19 s))
 
 -- a digit as it is written, in capitals
@@ -52,7 +52,7 @@ abbrev pub hexDigit : ℕ → ℕ
 hexDigit d = cond (ltb d 10) (48 + d) (55 + d)
 
 -- the last k hexadecimal digits of n
-abbrev pub hexes : ℕ → ℕ → List ℕ
+unfoldable pub hexes : ℕ → ℕ → List ℕ
 hexes zero n = []
 hexes (suc k) n = hexes k (n / 16) ++ hexDigit (n % 16) ∷ []
 
@@ -63,7 +63,7 @@ filled (p ∷ ps) [] = p ∷ filled ps []
 filled (p ∷ ps) (d ∷ ds) = cond (eqb p 120) (d ∷ filled ps ds) (p ∷ filled ps (d ∷ ds))
 
 -- how an id is written: 16 digits of the site number, then 16 of the serial
-abbrev pub idText : SessionId → List ℕ
+unfoldable pub idText : SessionId → List ℕ
 idText id = filled siteShape (hexes 16 (id .site)) ++ filled serialShape (hexes 16 (id .serial))
 
 abbrev pub InRange : SessionId → Type 0

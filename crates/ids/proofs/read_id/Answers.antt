@@ -4,16 +4,18 @@ use lib.ListN.{take, drop, length-drop}
 use Rattle.std.proofs.shelf.Lists.{take-all}
 use Rattle.std.specs.declared.option.Option.{Option}
 use Rattle.std.specs.declared.option.Option.the-variants.{Some, None}
-use Rattle.ids.specs.Ids.{partOf, both, idOf, siteShape, serialShape}
+use Rattle.ids.specs.Ids.{partOf, both, hexes, idOf, idText, siteShape, serialShape}
 use Rattle.ids.proofs.Texts.{not-long, both-none, reads-id}
 use Rattle.ids.proofs.read_id.Needs as need
 
 pub returns-then-s-ne38 : need.returns-then-s-ne38
+unfolding idOf idText hexes
 returns-then-s-ne38 c =
     let is = sym (not-long (c .args .s .now) (c .if-s-ne38 .taken)) in
     record { value = is; example = refl; told = reads-id (c .args .s .now) None is }
 
 pub returns-in-Break-site : need.returns-in-Break-site
+unfolding idOf idText hexes
 returns-in-Break-site c =
     let s = c .args .s .now in
     let none : partOf siteShape (take 19 s) ≡ None = sym (c .read-part .ensures) ∙ c .in-Break-site .was tt in
@@ -21,6 +23,7 @@ returns-in-Break-site c =
     record { value = is; example = refl; told = reads-id s (c .from-residual .result) is }
 
 pub returns-in-Break-serial : need.returns-in-Break-serial
+unfolding idOf idText hexes
 returns-in-Break-serial c =
     let s = c .args .s .now in
     let rest = take-all 19 (drop 19 s) (omega (arith, length-drop 19 s)) in
@@ -29,6 +32,7 @@ returns-in-Break-serial c =
     record { value = is; example = refl; told = reads-id s (c .from-residual-in-Break-serial .result) is }
 
 pub returns : need.returns
+unfolding idOf idText hexes
 returns c =
     let s = c .args .s .now in
     let rest = take-all 19 (drop 19 s) (omega (arith, length-drop 19 s)) in
