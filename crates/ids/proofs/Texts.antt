@@ -170,7 +170,7 @@ unfolding hexes
 length-hexes zero n = refl
 length-hexes (suc k) n = length-push (hexes k (n / 16)) _ ∙ omega (arith, length-hexes k (n / 16))
 
-digits-hexes : (k n : ℕ) → Digits 16 (hexes k n)
+pub digits-hexes : (k n : ℕ) → Digits 16 (hexes k n)
 unfolding hexes
 digits-hexes zero n = tt
 digits-hexes (suc k) n = digits-push 16 (hexes k (n / 16)) _ (digits-hexes k (n / 16)) (omega (arith, hex-value (n % 16) (omega arith)))
@@ -219,7 +219,13 @@ id-read id =
     (λ j. both (partOf siteShape (take-at front back 19 long j)) (partOf serialShape (drop-at front back 19 long j)))
     ∙ (λ j. both (part-read siteShape (id .site) refl j) (part-read serialShape (id .serial) refl j))
 
-id-again : (id : SessionId) → InRange id → idOf (idText id) ≡ Some id
+pub length-id : (id : SessionId) → length (idText id) ≡ 38
+unfolding idText
+length-id id =
+    length-append (filled siteShape (hexes 16 (id .site))) (filled serialShape (hexes 16 (id .serial)))
+    ∙ (λ j. length-filled siteShape (hexes 16 (id .site)) j + length-filled serialShape (hexes 16 (id .serial)) j)
+
+pub id-again : (id : SessionId) → InRange id → idOf (idText id) ≡ Some id
 id-again id h = id-read id ∙ (λ j. Some (record { site = value-hexes 16 (id .site) (h .0) j; serial = value-hexes 16 (id .serial) (h .1) j }))
 
 id-apart : (id other : SessionId) → InRange id → InRange other → idText id ≡ idText other → id ≡ other

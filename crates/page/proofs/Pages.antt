@@ -1,5 +1,5 @@
 -- One piece after another on a page. Assumes nothing.
-use mathlib.Core.Path.{_≡_, refl, sym, ap, _∙_}
+use mathlib.Core.Path.{_≡_, refl, sym, ap, subst, _∙_}
 use mathlib.Core.List.{List, [], _∷_, _++_, append-nil}
 use Prim.Native.Nat.{ℕ, zero, suc, _+_, _-_, min, _≤_}
 use native.Mathlib.Omega.{arith}
@@ -58,6 +58,10 @@ _then_ {p = p} {s = s} {t = t} {at = at} {mid = mid} f g = record {
   bytes = g .bytes ∙ ap (λ l. take mid l ++ over (drop mid l) t) (f .bytes) ∙ laid-then p at mid s t (f .ends);
   ends = omega (arith, f .ends, g .ends, puts-length f, length-append s t);
 }
+
+-- the same bytes in other words
+pub puts-as : {p q s t : List ℕ} {at end : ℕ} → s ≡ t → Puts p at s q end → Puts p at t q end
+puts-as {p} {q} {at = at} {end = end} e f = subst (λ l. Puts p at l q end) e f
 
 pub puts-none : (p : List ℕ) (at : ℕ) → Puts p at [] p at
 puts-none p at = record { bytes = sym (ap (λ l. take at p ++ l) (over-none (drop at p)) ∙ take-append-drop at p); ends = omega arith }
