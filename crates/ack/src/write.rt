@@ -17,6 +17,17 @@ use page::put_decimal;
 use page::put_hex;
 use page::put_id;
 
+// After the status, in every acknowledgement.
+const COMMON_LINES: &[u8; 44] = b"\r\nBITS-Packet-Type: Ack\r\nContent-Length: 0\r\n";
+
+const ENCODING_LINE: &[u8; 27] = b"Accept-Encoding: identity\r\n";
+
+const LINE_END: &[u8; 2] = b"\r\n";
+
+const BLANK_LINE: &[u8; 2] = b"\r\n";
+
+const PROTOCOL_LINE: &[u8; 55] = b"BITS-Protocol: {7df0354d-249b-430f-820d-3d2a9bef4931}\r\n";
+
 fn status_of(refusal: Option<Refusal>) -> Status
     ensures { λ r. ⌜ r ≡ statusOf refusal ⌝ }
 {
@@ -51,7 +62,7 @@ fn put_session(page: &mut [u8], at: usize, id: Option<SessionId>) -> usize
     };
     let at = put(page, at, b"BITS-Session-Id: ");
     let at = put_id(page, at, id);
-    put(page, at, b"\r\n")
+    put(page, at, LINE_END)
 }
 
 fn put_address(page: &mut [u8], at: usize, address: &[u8]) -> usize
@@ -62,7 +73,7 @@ fn put_address(page: &mut [u8], at: usize, address: &[u8]) -> usize
     }
     let at = put(page, at, b"BITS-Reply-URL: ");
     let at = put(page, at, address);
-    put(page, at, b"\r\n")
+    put(page, at, LINE_END)
 }
 
 fn put_stage(page: &mut [u8], at: usize, stage: &Stage) -> usize
@@ -82,7 +93,7 @@ fn put_progress(page: &mut [u8], at: usize, progress: &Progress) -> usize
 {
     let at = put(page, at, b"BITS-Received-Content-Range: ");
     let at = put_decimal(page, at, progress.received);
-    let at = put(page, at, b"\r\n");
+    let at = put(page, at, LINE_END);
     put_stage(page, at, &progress.stage)
 }
 
@@ -107,7 +118,7 @@ fn put_refusal(page: &mut [u8], at: usize, refusal: Option<Refusal>) -> usize
     let at = put_hex(page, at, 8, u64::from(refusal.code));
     let at = put(page, at, b"\r\nBITS-Error-Context: 0x");
     let at = put_hex(page, at, 1, u64::from(refusal.context.number()));
-    put(page, at, b"\r\n")
+    put(page, at, LINE_END)
 }
 
 // Every line in its order, and the blank line.
@@ -122,20 +133,11 @@ pub fn put_ack(
     ensures known { λ _. ⌜ Tellable (told refusal opened id (now (found .entry))) ⌝ }
 {
     let at = put_status(page, 0, status_of(refusal));
-    let at = put(
-        page,
-        at,
-        b"\r\nBITS-Packet-Type: Ack\r\nContent-Length: 0\r\n",
-    );
-    let at = put_if(
-        page,
-        at,
-        opened,
-        b"BITS-Protocol: {7df0354d-249b-430f-820d-3d2a9bef4931}\r\n",
-    );
+    let at = put(page, at, COMMON_LINES);
+    let at = put_if(page, at, opened, PROTOCOL_LINE);
     let at = put_session(page, at, id);
-    let at = put_if(page, at, opened, b"Accept-Encoding: identity\r\n");
+    let at = put_if(page, at, opened, ENCODING_LINE);
     let at = put_found(page, at, found);
     let at = put_refusal(page, at, refusal);
-    put(page, at, b"\r\n")
+    put(page, at, BLANK_LINE)
 }
