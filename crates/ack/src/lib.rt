@@ -5,6 +5,7 @@ ghost use Prim.Native.Nat.{_≤_, _<_};
 ghost use lib.ListN.{length, drop};
 ghost use Rattle.page.specs.Page.{Puts};
 ghost use Rattle.std.specs.Options.{Cases};
+ghost use Rattle.std.specs.Vec.{made};
 ghost use Rattle.std.specs.declared.result.Result.the-variants.{Ok, Err};
 ghost use Rattle.ack.specs.Back.{Sound};
 ghost use Rattle.ack.specs.Told.{accepted, ackOf, handedOver, isAway, refusedAs, Tellable};
@@ -84,6 +85,7 @@ fn put_refused(page: &mut [u8], refusal: Refusal, call: &Call) -> usize
 pub fn acknowledge(page: &mut [u8], outcome: Outcome, call: &Call) -> Result<usize, Outcome>
     ensures short { λ r. ⌜ (length (now (page .entry)) < leastPage → (r ≡ Err Outcome.ShortPage) × (now (page .exit) ≡ now (page .entry))) ⌝ }
     ensures length { λ r. ⌜ (leastPage ≤ length (now (page .entry)) → r ≡ Ok (length (bytesOf (ackOf outcome (now (call .entry)))))) ⌝ }
+    ensures within { λ r. ⌜ made r (λ n. n ≤ length (now (page .entry))) ⌝ }
     ensures page { λ r. ⌜ (leastPage ≤ length (now (page .entry)) → now (page .exit) ≡ bytesOf (ackOf outcome (now (call .entry))) ++ drop (length (bytesOf (ackOf outcome (now (call .entry))))) (now (page .entry))) ⌝ }
     ensures laws { λ _. ⌜ (leastPage ≤ length (now (page .entry)) → Cases (ackOf outcome (now (call .entry))) (Unit {0}) Sound) ⌝ }
 {

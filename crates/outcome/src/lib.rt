@@ -160,7 +160,15 @@ fn rejected(code: u32) -> Report
 }
 
 impl Outcome {
+    // A report has all that its outcome has: no two outcomes share one.
     pub fn report(self) -> Report
+        ensures value { λ r. ⌜ r ≡ reportOf self ⌝ }
+        ensures apart { λ r. ⌜ ((other : Outcome) → reportOf other ≡ r → other ≡ self) ⌝ }
+    {
+        self.row()
+    }
+
+    fn row(self) -> Report
         ensures { λ r. ⌜ r ≡ reportOf self ⌝ }
     {
         match self {

@@ -17,6 +17,7 @@ pub returns-then-page-lt-LEAST-PAGE : need.returns-then-page-lt-LEAST-PAGE
 returns-then-page-lt-LEAST-PAGE c = record {
   short = λ h. (refl, refl);
   length = λ h. absurd (omega arith);
+  within = tt;
   page = λ h. absurd (omega arith);
   laws = λ h. absurd (omega arith);
 }
@@ -24,10 +25,11 @@ returns-then-page-lt-LEAST-PAGE c = record {
 pub returns-in-Silent : need.returns-in-Silent
 returns-in-Silent c =
     let call = c .args .call .now in
-    let is : None ≡ ackOf (c .args .outcome) call = sym (ap (λ a. answered a call) (ap (λ r. r .answer) (sym (c .report .ensures)) ∙ c .in-Silent .is)) in
+    let is : None ≡ ackOf (c .args .outcome) call = sym (ap (λ a. answered a call) (ap (λ r. r .answer) (sym (c .report .ensures .value)) ∙ c .in-Silent .is)) in
     record {
       short = λ h. absurd (omega arith);
       length = λ h. ap (λ a. Ok (length (bytesOf a))) is;
+      within = omega arith;
       page = λ h. ap (λ a. bytesOf a ++ drop (length (bytesOf a)) (c .args .page .now)) is;
       laws = λ h. subst (λ a. Cases a (Unit {0}) Sound) is tt;
     }
@@ -35,11 +37,12 @@ returns-in-Silent c =
 pub returns-in-Accepted : need.returns-in-Accepted
 returns-in-Accepted c =
     let call = c .args .call .now in
-    let is : accepted call ≡ ackOf (c .args .outcome) call = sym (ap (λ a. answered a call) (ap (λ r. r .answer) (sym (c .report .ensures)) ∙ c .in-Accepted .is)) in
+    let is : accepted call ≡ ackOf (c .args .outcome) call = sym (ap (λ a. answered a call) (ap (λ r. r .answer) (sym (c .report .ensures .value)) ∙ c .in-Accepted .is)) in
     let long = bytes-long (accepted call) (c .put-accepted .ensures .known) in
     record {
       short = λ h. absurd (omega arith);
       length = λ h. ap Ok (whole-page (c .put-accepted .ensures .puts) long h .0 ∙ ap (λ a. length (bytesOf a)) is);
+      within = omega (arith, whole-page (c .put-accepted .ensures .puts) long (c .if-page-lt-LEAST-PAGE .left) .0, long, c .if-page-lt-LEAST-PAGE .left);
       page = λ h. whole-page (c .put-accepted .ensures .puts) long h .1 ∙ ap (λ a. bytesOf a ++ drop (length (bytesOf a)) (c .args .page .now)) is;
       laws = λ h. subst (λ a. Cases a (Unit {0}) Sound) is (all-sound (accepted call) (c .put-accepted .ensures .known));
     }
@@ -48,11 +51,12 @@ pub returns-in-Refused : need.returns-in-Refused
 returns-in-Refused c =
     let call = c .args .call .now in
     let ack = refusedAs (c .in-Refused .refusal) call in
-    let is : Some ack ≡ ackOf (c .args .outcome) call = sym (ap (λ a. answered a call) (ap (λ r. r .answer) (sym (c .report .ensures)) ∙ c .in-Refused .is)) in
+    let is : Some ack ≡ ackOf (c .args .outcome) call = sym (ap (λ a. answered a call) (ap (λ r. r .answer) (sym (c .report .ensures .value)) ∙ c .in-Refused .is)) in
     let long = text-long ack (c .put-refused .ensures .known) in
     record {
       short = λ h. absurd (omega arith);
       length = λ h. ap Ok (whole-page (c .put-refused .ensures .puts) long h .0 ∙ ap (λ a. length (bytesOf a)) is);
+      within = omega (arith, whole-page (c .put-refused .ensures .puts) long (c .if-page-lt-LEAST-PAGE .left) .0, long, c .if-page-lt-LEAST-PAGE .left);
       page = λ h. whole-page (c .put-refused .ensures .puts) long h .1 ∙ ap (λ a. bytesOf a ++ drop (length (bytesOf a)) (c .args .page .now)) is;
       laws = λ h. subst (λ a. Cases a (Unit {0}) Sound) is (sound ack (c .put-refused .ensures .known));
     }
