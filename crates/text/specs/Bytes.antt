@@ -54,3 +54,7 @@ passesAs Value b = valueByte b
 passesAs Visible b = visible b
 passesAs Divider b = divider b
 passesAs Digit b = asciiDigit b
+
+abbrev pub every : (ℕ → Bool) → List ℕ → Bool
+every p [] = true
+every p (b ∷ bs) = p b && every p bs

@@ -3,7 +3,7 @@ ghost use mathlib.Core.Path.{_≡_};
 ghost use Prim.Native.Nat.{_≤_};
 ghost use lib.ListN.{length};
 ghost use Rattle.std.specs.shelf.Lists.{leading};
-ghost use Rattle.text.specs.Bytes.{classOf, passesAs};
+ghost use Rattle.text.specs.Bytes.{classOf, passesAs, every};
 ghost use Rattle.text.specs.Words.{trimFront, trimEnd, trimmed, sameLetters};
 ghost use Rattle.text.specs.Numbers.{decimalOf};
 
@@ -91,6 +91,13 @@ pub fn lead(kind: Kind, s: &[u8]) -> usize
         }
     }
     s.len()
+}
+
+// Whether every byte belongs to the set.
+pub fn all(kind: Kind, s: &[u8]) -> bool
+    ensures { λ r. ⌜ r ≡ every (passesAs kind) (now (s .entry)) ⌝ }
+{
+    lead(kind, s) == s.len()
 }
 
 fn trim_front(s: &[u8]) -> &[u8]

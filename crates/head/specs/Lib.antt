@@ -1,0 +1,4 @@
+pub mod Marks
+pub mod Lines
+pub mod Heads
+pub mod Loops
