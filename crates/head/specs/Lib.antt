@@ -1,3 +1,4 @@
+pub mod Faults
 pub mod Marks
 pub mod Lines
 pub mod Heads

@@ -2,7 +2,9 @@
 ghost use mathlib.Core.Path.{_≡_};
 ghost use Prim.Native.Nat.{_≤_};
 ghost use lib.ListN.{length};
+ghost use Rattle.head.specs.Faults.{numberOf, placeOf};
 ghost use Rattle.head.specs.Heads.{headOf, seen};
+ghost use Rattle.head.specs.Laws.{Exact, NoHead, Fenced, Caseless};
 use crate::fields::read_fields;
 use crate::lines::line_length;
 use crate::lines::read_path;
@@ -24,6 +26,30 @@ pub enum Fault {
     Malformed(usize),
     // the first known field that stands again
     Repeated(usize),
+}
+
+impl Fault {
+    // Its number among all outcomes.
+    pub fn number(self) -> u8
+        ensures { λ r. ⌜ r ≡ numberOf self ⌝ }
+    {
+        match self {
+            Fault::Unfinished => 2,
+            Fault::Malformed(_) => 3,
+            Fault::Repeated(_) => 4,
+        }
+    }
+
+    // The offset of its line.
+    pub fn place(self) -> usize
+        ensures { λ r. ⌜ r ≡ placeOf self ⌝ }
+    {
+        match self {
+            Fault::Unfinished => 0,
+            Fault::Malformed(at) => at,
+            Fault::Repeated(at) => at,
+        }
+    }
 }
 
 #[derive(Clone, Copy)]
@@ -53,6 +79,10 @@ fn parse(input: &[u8]) -> Result<Head<'_>, Fault>
 // Reads the head that `input` begins with.
 pub fn read_head(input: &[u8]) -> Result<Head<'_>, Fault>
     ensures value { λ r. ⌜ seen r ≡ headOf (now (input .entry)) ⌝ }
+    ensures exact { λ r. ⌜ Exact (now (input .entry)) (seen r) ⌝ }
+    ensures unfinished { λ r. ⌜ NoHead (now (input .entry)) (seen r) ⌝ }
+    ensures fenced { λ r. ⌜ Fenced (now (input .entry)) (seen r) ⌝ }
+    ensures caseless { λ r. ⌜ Caseless (now (input .entry)) (seen r) ⌝ }
 {
     parse(input)
 }
