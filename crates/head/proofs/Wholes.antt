@@ -21,12 +21,14 @@ use Rattle.std.specs.declared.result.Result.the-variants.{Ok, Err}
 use Rattle.text.specs.Bytes.{visible, every}
 use Rattle.text.specs.Words.{sameLetters}
 use Rattle.text.proofs.Runs.{every-append, every-weaker}
+use Rattle.std.specs.Vec.{made}
+use Rattle.head.specs.declared.Head.{Head}
 use Rattle.head.specs.declared.Fault.{Fault}
 use Rattle.head.specs.declared.Fault.the-variants.{Unfinished, Malformed, Repeated}
 use Rattle.head.specs.declared.fields.Name.{Name}
 use Rattle.head.specs.Marks.{lineEnd, headMark, markFrom, linesOf}
 use Rattle.head.specs.Lines.{Entry, requestOf, middle, goodPath, pathOf, fieldsOf}
-use Rattle.head.specs.Heads.{Reading, Table, nameOf, keptAs, kept, empty, gathered, inTime, endOf, unrepeated, withTable, withPath, judged, upTo, headOf}
+use Rattle.head.specs.Heads.{Reading, Table, nameOf, keptAs, kept, empty, gathered, inTime, endOf, unrepeated, withTable, withPath, judged, upTo, headOf, reading, seen}
 use Rattle.head.specs.Grammar.{FieldLines, joinLines, Parts, WellFormed, Recased}
 use Rattle.head.specs.Laws.{Exact, NoHead, Fenced, Caseless}
 use Rattle.head.proofs.Turns.{lines-more}
@@ -178,6 +180,13 @@ exact input = record {
     complete = complete input;
     unique = λ v w p q. let e = sym (complete input v p) ∙ complete input w q in cc
   }
+
+-- a head lies in its input
+pub size-within : (input : List ℕ) (r : Result Head Fault) → seen r ≡ headOf input → made r (λ h. h .size ≤ length input)
+size-within input (Ok h) e =
+    let p = sound input (reading h) (sym e) .parts in
+    omega (arith, p .sized, ap length (p .is), length-append (joinLines (requestOf (h .path .now) ∷ p .lines)) (headMark ++ p .rest))
+size-within input (Err f) e = tt
 
 -- no head is called unfinished once its end was found
 not-unfinished : (n : ℕ) (ls : List (List ℕ)) → judged n ls ≡ Err Unfinished → ⊥

@@ -2,6 +2,7 @@
 ghost use mathlib.Core.Path.{_≡_};
 ghost use Prim.Native.Nat.{_≤_};
 ghost use lib.ListN.{length};
+ghost use Rattle.std.specs.Vec.{made};
 ghost use Rattle.head.specs.Faults.{numberOf, placeOf};
 ghost use Rattle.head.specs.Heads.{headOf, seen};
 ghost use Rattle.head.specs.Laws.{Exact, NoHead, Fenced, Caseless};
@@ -79,6 +80,7 @@ fn parse(input: &[u8]) -> Result<Head<'_>, Fault>
 // Reads the head that `input` begins with.
 pub fn read_head(input: &[u8]) -> Result<Head<'_>, Fault>
     ensures value { λ r. ⌜ seen r ≡ headOf (now (input .entry)) ⌝ }
+    ensures within { λ r. ⌜ made r (λ h. h .size ≤ length (now (input .entry))) ⌝ }
     ensures exact { λ r. ⌜ Exact (now (input .entry)) (seen r) ⌝ }
     ensures unfinished { λ r. ⌜ NoHead (now (input .entry)) (seen r) ⌝ }
     ensures fenced { λ r. ⌜ Fenced (now (input .entry)) (seen r) ⌝ }
