@@ -75,7 +75,12 @@ pub trait Store {
 }
 
 // Puts a whole bundle under a name by way of a slot, whose old bytes are lost.
-pub fn store_whole<S: Store>(store: &mut S, slot: usize, name: &[u8], bytes: &[u8]) -> Result<(), Refusal>
+pub fn store_whole<S: Store>(
+    store: &mut S,
+    slot: usize,
+    name: &[u8],
+    bytes: &[u8],
+) -> Result<(), Refusal>
     ensures stored { λ r. ⌜ Accepted r (Stored (S·Store .meaning (now (store .entry))) slot (now (name .entry)) (now (bytes .entry)) (S·Store .meaning (now (store .exit)))) ⌝ }
     ensures kept { λ r. ⌜ (isOk r ≡ false → Untouched (S·Store .meaning (now (store .entry))) slot (S·Store .meaning (now (store .exit)))) ⌝ }
 {
