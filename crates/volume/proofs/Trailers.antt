@@ -1,0 +1,97 @@
+-- The trailer at the end of bytes, and that a fault leaves no bundle there.
+use mathlib.Core.Path.{_≡_, refl, sym, ap, subst, _∙_}
+use mathlib.Core.List.{List, [], _∷_, _++_, append-assoc}
+use mathlib.Core.Logic.{⊎-elim}
+use Prim.Native.Nat.{ℕ, _+_, _-_, _^_, _<_, _≤_}
+use native.Mathlib.Omega.{arith}
+use lib.Chars.{codes}
+use lib.ListN.{length, take, drop, length-append, length-take}
+use Rattle.std.specs.Holes.{between}
+use Rattle.std.proofs.shelf.Edits.{split-between, length-between}
+use Rattle.std.proofs.shelf.Fronts.{end-rest}
+use Rattle.std.proofs.shelf.Lists.{length-take-le}
+use Rattle.volume.specs.Bundles.{Bundle, bigEndian, trailer, distance, bytesOf, Proper}
+use Rattle.volume.specs.Reads.{Placed, Ends, Trailed, EndsWith, Faulty}
+use Rattle.volume.specs.declared.bundle.Fault.{Fault}
+use Rattle.volume.specs.declared.bundle.Fault.the-variants.{NoTrailer, NoMark, NoZeros, NameLength, NoEntity, TooFar}
+use Rattle.volume.proofs.Joins.{drop-between, split-right, length-trailer, length-bytesOf, trailer-same, apart, name-long}
+
+-- the fields of a trailer read one by one
+pub trailed : (s : List ℕ) (d n : ℕ) → 16 ≤ length s → between (length s - 16) (length s - 8) s ≡ bigEndian (length (between (length s - 16) (length s - 8) s)) d → d < 256 ^ length (between (length s - 16) (length s - 8) s) → between (length s - 8) (length s - 6) s ≡ bigEndian (length (between (length s - 8) (length s - 6) s)) n → n < 256 ^ length (between (length s - 8) (length s - 6) s) → EndsWith s (0 ∷ 0 ∷ codes "HALL") → Trailed s d n
+trailed s d n long wd hd wn hn e =
+    let L = length s in
+    let l8 : length (between (L - 16) (L - 8) s) ≡ 8 = length-between s (L - 16) (L - 8) (omega arith) ∙ omega arith in
+    let l2 : length (between (L - 8) (L - 6) s) ≡ 2 = length-between s (L - 8) (L - 6) (omega arith) ∙ omega arith in
+    let mid : drop (L - 8) s ≡ between (L - 8) (L - 6) s ++ drop (L - 6) s = drop-between s (L - 8) (L - 6) (omega arith) (omega arith) in
+    let rest : drop (L - 6) s ≡ 0 ∷ 0 ∷ codes "HALL" = end-rest s (0 ∷ 0 ∷ codes "HALL") (e .0) (e .1) in
+    record {
+      before = take (L - 16) s;
+      joins =
+          split-between s (L - 16) (L - 8) (omega arith)
+          ∙ ap (λ l. take (L - 16) s ++ (between (L - 16) (L - 8) s ++ l)) (mid ∙ ap (λ l. between (L - 8) (L - 6) s ++ l) rest)
+          ∙ ap (λ l. take (L - 16) s ++ (l ++ (between (L - 8) (L - 6) s ++ (0 ∷ 0 ∷ codes "HALL")))) (wd ∙ ap (λ k. bigEndian k d) l8)
+          ∙ ap (λ l. take (L - 16) s ++ (bigEndian 8 d ++ (l ++ (0 ∷ 0 ∷ codes "HALL")))) (wn ∙ ap (λ k. bigEndian k n) l2);
+      reach = subst (λ k. d < 256 ^ k) l8 hd;
+      long = subst (λ k. n < 256 ^ k) l2 hn;
+    }
+
+pub trailed-same : (s : List ℕ) (d n e m : ℕ) → Trailed s d n → Trailed s e m → (d ≡ e) × (n ≡ m)
+trailed-same s d n e m p q =
+    let r = split-right (p .before) (q .before) (trailer d n) (trailer e m) (length-trailer d n ∙ sym (length-trailer e m)) (sym (p .joins) ∙ q .joins) in
+    trailer-same d n e m (p .reach) (q .reach) (p .long) (q .long) (r .1)
+
+pub trailed-long : (s : List ℕ) (d n : ℕ) → Trailed s d n → 16 ≤ length s
+trailed-long s d n p = omega (arith, ap length (p .joins), length-append (p .before) (trailer d n), length-trailer d n)
+
+ends-trailed : (s : List ℕ) (p : Placed) → Ends s p → Trailed s (distance (p .bundle)) (length (p .bundle .name))
+ends-trailed s p e = record {
+  before = e .before ++ (p .bundle .entity ++ p .bundle .name);
+  joins = e .joins ∙ apart (e .before) (p .bundle);
+  reach = e .proper .fits;
+  long = name-long (p .bundle) (e .proper);
+}
+
+ends-zeros : (s : List ℕ) (d n : ℕ) → Trailed s d n → EndsWith s (0 ∷ 0 ∷ codes "HALL")
+ends-zeros s d n t = (
+  t .before ++ (bigEndian 8 d ++ bigEndian 2 n),
+  t .joins ∙ sym (append-assoc (t .before) (bigEndian 8 d ++ bigEndian 2 n) _ ∙ ap (λ l. t .before ++ l) (append-assoc (bigEndian 8 d) (bigEndian 2 n) _)),
+)
+
+zeros-mark : (s : List ℕ) → EndsWith s (0 ∷ 0 ∷ codes "HALL") → EndsWith s (codes "HALL")
+zeros-mark s e = (e .0 ++ (0 ∷ 0 ∷ []), e .1 ∙ sym (append-assoc (e .0) (0 ∷ 0 ∷ []) (codes "HALL")))
+
+pub ends-long : (s : List ℕ) (p : Placed) → Ends s p → length s ≡ p .at + (distance (p .bundle) + 16)
+ends-long s p e = omega (arith, ap length (e .joins), length-append (e .before) (bytesOf (p .bundle)), length-bytesOf (p .bundle), e .starts)
+
+pub faulty-none : (s : List ℕ) (f : Fault) → Faulty s f → (p : Placed) → Ends s p → ⊥
+faulty-none s NoTrailer h p e = omega (arith, ends-long s p e)
+faulty-none s NoMark h p e = h .1 (zeros-mark s (ends-zeros s _ _ (ends-trailed s p e)))
+faulty-none s NoZeros h p e = h .2 (ends-zeros s _ _ (ends-trailed s p e))
+faulty-none s NameLength (d, n, t, bad) p e =
+    let same = trailed-same s d n (distance (p .bundle)) (length (p .bundle .name)) t (ends-trailed s p e) in
+    ⊎-elim (λ z. omega (arith, same .1, e .proper .named)) (λ z. omega (arith, same .1, e .proper .short)) bad
+faulty-none s NoEntity (d, n, t, lo, hi, bad) p e =
+    let same = trailed-same s d n (distance (p .bundle)) (length (p .bundle .name)) t (ends-trailed s p e) in
+    omega (arith, same .0, same .1, e .proper .some)
+faulty-none s TooFar (d, n, t, lo, hi, some, far) p e =
+    let same = trailed-same s d n (distance (p .bundle)) (length (p .bundle .name)) t (ends-trailed s p e) in
+    omega (arith, same .0, ends-long s p e)
+
+-- what the numbers of a trailer point at
+pub ends-at : (s : List ℕ) (d n : ℕ) → Trailed s d n → 1 ≤ n → n ≤ 128 → n < d → d + 16 ≤ length s → Ends s (record { at = length s - 16 - d; bundle = record { entity = between (length s - 16 - d) (length s - 16 - n) s; name = between (length s - 16 - n) (length s - 16) s } })
+ends-at s d n t lo hi some near =
+    let body = length s - 16 in
+    let b : Bundle = record { entity = between (body - d) (body - n) s; name = between (body - n) body s } in
+    let le : length (b .entity) ≡ d - n = length-between s (body - d) (body - n) (omega arith) ∙ omega arith in
+    let ln : length (b .name) ≡ n = length-between s (body - n) body (omega arith) ∙ omega arith in
+    let back : distance b ≡ d = omega arith in
+    let l16 : length s - length (trailer d n) ≡ body = omega (arith, length-trailer d n) in
+    let end : drop body s ≡ trailer d n = ap (λ k. drop k s) (sym l16) ∙ end-rest s (trailer d n) (t .before) (t .joins) in
+    record {
+      before = take (body - d) s;
+      joins =
+          split-between s (body - d) (body - n) (omega arith)
+          ∙ ap (λ l. take (body - d) s ++ (b .entity ++ l)) (drop-between s (body - n) body (omega arith) (omega arith) ∙ ap (λ l. b .name ++ l) (end ∙ (λ i. trailer (sym back i) (sym ln i))));
+      starts = length-take-le (body - d) s (omega arith);
+      proper = record { some = omega arith; named = omega arith; short = omega arith; fits = subst (λ k. k < 256 ^ 8) (sym back) (t .reach) };
+    }

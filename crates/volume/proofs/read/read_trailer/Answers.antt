@@ -1,0 +1,30 @@
+use mathlib.Core.Path.{_≡_, sym, _∙_}
+use mathlib.Core.Bool.{true, false}
+use mathlib.Core.List.{List, _++_, _∷_}
+use Prim.Native.Nat.{ℕ, _-_}
+use native.Mathlib.Omega.{arith}
+use lib.Chars.{codes}
+use lib.ListN.{length, take}
+use Rattle.std.proofs.shelf.Equals.{ends-is}
+use Rattle.std.proofs.shelf.Tests.{true≢false}
+use Rattle.volume.specs.Reads.{EndsWith}
+use Rattle.volume.proofs.Trailers.{trailed}
+use Rattle.volume.proofs.read.read_trailer.Needs as need
+
+pub returns-then-not-ends-with : need.returns-then-not-ends-with
+returns-then-not-ends-with c = (
+  c .if-len-lt-TRAILER .left,
+  λ e. true≢false (sym (ends-is (c .args .bytes .now) (codes "HALL") (c .ends-with .result) (c .ends-with .ensures .matches) .1 (e .0) (e .1)) ∙ c .if-not-ends-with .taken),
+)
+
+pub returns-then-not-ends-with-2 : need.returns-then-not-ends-with-2
+returns-then-not-ends-with-2 c = (
+  c .if-len-lt-TRAILER .left,
+  (_, ends-is (c .args .bytes .now) (codes "HALL") (c .ends-with .result) (c .ends-with .ensures .matches) .0 (c .if-not-ends-with .left)),
+  λ e. true≢false (sym (ends-is (c .args .bytes .now) (0 ∷ 0 ∷ codes "HALL") (c .ends-with-2 .result) (c .ends-with-2 .ensures .matches) .1 (e .0) (e .1)) ∙ c .if-not-ends-with-2 .taken),
+)
+
+pub returns : need.returns
+returns c =
+    trailed (c .args .bytes .now) (c .number-distance .result) (c .number-name-len .result) (c .if-len-lt-TRAILER .left) (c .number-distance .ensures .wrote) (c .number-distance .ensures .fits) (c .number-name-len .ensures .wrote) (c .number-name-len .ensures .fits)
+    (_, ends-is (c .args .bytes .now) (0 ∷ 0 ∷ codes "HALL") (c .ends-with-2 .result) (c .ends-with-2 .ensures .matches) .0 (c .if-not-ends-with-2 .left))

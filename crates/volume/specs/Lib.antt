@@ -1,0 +1,4 @@
+pub mod Bundles
+pub mod Reads
+pub mod Writes
+pub mod Lists
