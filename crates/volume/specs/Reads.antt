@@ -1,7 +1,6 @@
 -- What reading a volume back from its end gives.
 use mathlib.Core.Path.{_≡_}
 use mathlib.Core.List.{List, [], _∷_, _++_, reverse}
-use mathlib.Core.Logic.{_⊎_}
 use Prim.Native.Nat.{ℕ, _+_, _-_, _^_, _<_, _≤_}
 use lib.Chars.{codes}
 use lib.ListN.{length, take, drop}
@@ -51,17 +50,33 @@ pub record Trailed (s : List ℕ) (d n : ℕ) : Type 0 where
 abbrev pub EndsWith : List ℕ → List ℕ → Type 0
 EndsWith s p = (front : List ℕ) × (s ≡ front ++ p)
 
--- why s ends in no bundle; at most one of these holds
-abbrev pub Faulty : List ℕ → Fault → Type 0
-Faulty s NoTrailer = length s < 16
-Faulty s NoMark = (16 ≤ length s) × (EndsWith s (codes "HALL") → ⊥)
-Faulty s NoZeros = (16 ≤ length s) × EndsWith s (codes "HALL") × (EndsWith s (0 ∷ 0 ∷ codes "HALL") → ⊥)
-Faulty s NameLength = (d : ℕ) × (n : ℕ) × Trailed s d n × ((n ≡ 0) ⊎ (128 < n))
-Faulty s NoEntity = (d : ℕ) × (n : ℕ) × Trailed s d n × (1 ≤ n) × (n ≤ 128) × (d ≤ n)
-Faulty s TooFar = (d : ℕ) × (n : ℕ) × Trailed s d n × (1 ≤ n) × (n ≤ 128) × (n < d) × (length s < d + 16)
+-- what each test of the end of s asks
+abbrev pub Passes : List ℕ → Fault → Type 0
+Passes s NoTrailer = 16 ≤ length s
+Passes s NoMark = EndsWith s (codes "HALL")
+Passes s NoZeros = EndsWith s (0 ∷ 0 ∷ codes "HALL")
+Passes s NameLength = (d : ℕ) × (n : ℕ) × Trailed s d n × (1 ≤ n) × (n ≤ 128)
+Passes s NoEntity = (d : ℕ) × (n : ℕ) × Trailed s d n × (n < d)
+Passes s TooFar = (d : ℕ) × (n : ℕ) × Trailed s d n × (d + 16 ≤ length s)
 
+-- the order of the tests
+abbrev pub rank : Fault → ℕ
+rank NoTrailer = 0
+rank NoMark = 1
+rank NoZeros = 2
+rank NameLength = 3
+rank NoEntity = 4
+rank TooFar = 5
+
+-- the first test that fails
+pub record Faulty (s : List ℕ) (f : Fault) : Type 0 where
+  pub earlier : (e : Fault) → rank e < rank f → Passes s e
+  pub fails : Passes s f → ⊥
+
+-- s ends in no bundle, for this fault and no other
 pub record NoBundle (s : List ℕ) (f : Fault) : Type 0 where
   pub fault : Faulty s f
+  pub only : (g : Fault) → Faulty s g → g ≡ f
   pub none : (p : Placed) → Ends s p → ⊥
 
 -- from `at` on, s is the bundles bs joined

@@ -4,7 +4,8 @@ ghost use mathlib.Core.List.{List, map};
 ghost use lib.ListN.{length};
 ghost use Rattle.std.specs.Of.Vec.{vec-items};
 ghost use Rattle.std.specs.declared.result.Result.the-variants.{Ok, Err};
-ghost use Rattle.volume.specs.Lists.{Read, Written};
+ghost use Rattle.volume.specs.Bundles.{Bundle, Volume};
+ghost use Rattle.volume.specs.Lists.{Back, Read, Returned, Written};
 use crate::bundle::BundleRef;
 use crate::bundle::Damage;
 use crate::bundle::DamageDebug;
@@ -63,4 +64,34 @@ pub fn write_all(region: &mut [u8], bundles: &[BundleRef<'_>]) -> Result<usize, 
         }
     }
     Ok(used)
+}
+
+// Why a list of bundles did not come back.
+#[derive(Clone, Copy, PartialEq, Eq, Debug)]
+pub enum Lost {
+    Unwritten(Unwritten),
+    Unlisted(Unlisted),
+}
+
+// Writes the bundles to an empty volume and reads them back from its end: the same, newest first.
+pub fn round_trip<'a>(
+    heap: Global,
+    region: &'a mut [u8],
+    bundles: &[BundleRef<'_>],
+) -> Result<Vec<Found<'a>>, Lost>
+    ensures { λ r. ⌜ Back (length (now (region .entry))) (now (bundles .entry)) r ⌝ }
+{
+    match write_all(region, bundles) {
+        Ok(used) => read_written(heap, &region[0..used]),
+        Err(unwritten) => Err(Lost::Unwritten(unwritten)),
+    }
+}
+
+fn read_written(heap: Global, bytes: &[u8]) -> Result<Vec<Found<'_>>, Lost>
+    ensures { λ r. ⌜ ((bs : List Bundle) → Volume (now (bytes .entry)) bs → Returned bs r) ⌝ }
+{
+    match list(heap, bytes) {
+        Ok(all) => Ok(all),
+        Err(unlisted) => Err(Lost::Unlisted(unlisted)),
+    }
 }
