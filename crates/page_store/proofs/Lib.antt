@@ -1,0 +1,10 @@
+pub mod Chains
+pub mod Moves
+pub mod Tables
+pub mod Places
+pub mod Fresh
+pub mod Rows
+pub mod Content
+pub mod Stores
+pub mod Handing
+pub mod Starts
