@@ -3,4 +3,6 @@ pub mod Turns
 pub mod Requests
 pub mod FieldForms
 pub mod Joins
+pub mod Slots
+pub mod Soles
 pub mod Wholes

@@ -28,8 +28,9 @@ use Rattle.head.specs.declared.Fault.the-variants.{Unfinished, Malformed, Repe
 use Rattle.head.specs.declared.fields.Name.{Name}
 use Rattle.head.specs.Marks.{lineEnd, headMark, markFrom, linesOf}
 use Rattle.head.specs.Lines.{Entry, requestOf, middle, goodPath, pathOf, fieldsOf}
-use Rattle.head.specs.Heads.{Reading, Table, nameOf, keptAs, kept, empty, gathered, inTime, endOf, unrepeated, withTable, withPath, judged, upTo, headOf, reading, seen}
-use Rattle.head.specs.Grammar.{FieldLines, joinLines, Parts, WellFormed, Recased}
+use Rattle.head.specs.Heads.{Reading, Table, nameOf, keptAs, kept, empty, gathered, inTime, endOf, unrepeated, withTable, withPath, judged, upTo, headOf, reading, seen, slotOf}
+use Rattle.head.specs.Grammar.{FieldLines, joinLines, Sole, Parts, WellFormed, Recased}
+use Rattle.head.proofs.Soles.{known-sole, sole-known}
 use Rattle.head.specs.Laws.{Exact, NoHead, Fenced, Caseless}
 use Rattle.head.proofs.Turns.{lines-more}
 use Rattle.head.proofs.Requests.{path-is}
@@ -109,7 +110,7 @@ complete : (input : List ℕ) (v : Reading) → WellFormed input v → headOf in
 complete input v w =
     let n = length (joinLines (requestOf (v .path) ∷ w .parts .lines)) in
     parts-read input (v .path) (w .fields) (v .size) n (w .parts) (w .parts .sized)
-    ∙ ap (λ t. withTable (v .path) n (Ok t)) (sym (w .known))
+    ∙ ap (λ t. withTable (v .path) n (Ok t)) (sym (sole-known (w .fields) (v .table) (w .known) (w .once)))
     ∙ ap (λ o. unrepeated (v .path) n o (v .table)) (w .once)
     ∙ ap (λ k. Ok (record { path = v .path; table = v .table; size = k })) (sym (w .parts .sized))
 
@@ -166,7 +167,10 @@ judged-parts input n (line ∷ lines) v end cut e =
     let g = gathered-all (fieldsOf 64 (length line + 2) lines) (t .0) (t .1) in
     let o = once-head (p .0) n (t .0 .repeated) (t .0) v (t .2) in
     let parts = read-parts input line lines (p .0) n (g .0) end cut (p .1) (g .1) in
-    subst (WellFormed input) (o .1) (record { fields = g .0; parts = parts; known = sym (g .2); once = o .0 })
+    let same = g .2 in
+    let once-here : folded kept empty (g .0) .repeated ≡ None = ap (λ k. k .repeated) same ∙ o .0 in
+    let sole : (m : Name) → Sole m (g .0) (slotOf (t .0) m) = λ m. subst (λ k. Sole m (g .0) (slotOf k m)) same (known-sole (g .0) once-here m) in
+    subst (WellFormed input) (o .1) (record { fields = g .0; parts = parts; known = sole; once = o .0 })
 
 sound : (input : List ℕ) (v : Reading) → headOf input ≡ Ok v → WellFormed input v
 unfolding headOf

@@ -4,13 +4,14 @@ use mathlib.Core.Bool.{true, false}
 use mathlib.Core.List.{List, [], _∷_, _++_, map}
 use Prim.Native.Nat.{ℕ, _+_, _-_, _<_, _≤_}
 use lib.ListN.{length, getD}
-use Rattle.std.specs.Iters.{folded}
 use Rattle.std.specs.Text.{lower}
-use Rattle.std.specs.declared.option.Option.the-variants.{None}
+use Rattle.std.specs.declared.option.Option.{Option}
+use Rattle.std.specs.declared.option.Option.the-variants.{Some, None}
 use Rattle.text.specs.Bytes.{tokenByte, valueByte, blank, every}
 use Rattle.head.specs.Marks.{lineEnd, headMark}
 use Rattle.head.specs.Lines.{Entry, requestOf, goodPath}
-use Rattle.head.specs.Heads.{Reading, kept, empty}
+use Rattle.head.specs.declared.fields.Name.{Name}
+use Rattle.head.specs.Heads.{Reading, Found, nameOf, slotOf}
 
 -- a field: a token, a colon, and a value with blanks around it that do not belong to it
 pub record FieldLine (line name value : List ℕ) : Type 0 where
@@ -53,11 +54,29 @@ pub record Parts (input path : List ℕ) (fields : List Entry) (size : ℕ) : Ty
   pub sized : size ≡ length (joinLines (requestOf path ∷ lines)) + 4
   pub in-time : size ≤ 8192
 
--- the input begins with a head that reads as v: no known field stands twice
+-- no field has the name
+abbrev pub Absent : Name → List Entry → Type 0
+Absent n fs = (i : ℕ) (d : Entry) → i < length fs → nameOf (getD fs i d .name) ≡ Some n → ⊥
+
+-- one field has the name, and no other
+pub record OnlyOne (n : Name) (fs : List Entry) (f : Found) : Type 0 where
+  pub index : ℕ
+  pub inside : index < length fs
+  pub named : (d : Entry) → nameOf (getD fs index d .name) ≡ Some n
+  pub at-is : (d : Entry) → getD fs index d .at ≡ f .at
+  pub value-is : (d : Entry) → getD fs index d .value ≡ f .value
+  pub only : (i : ℕ) (d : Entry) → i < length fs → nameOf (getD fs i d .name) ≡ Some n → i ≡ index
+
+-- what stands under a known name: nothing where no field has it, else its only field
+abbrev pub Sole : Name → List Entry → Option Found → Type 0
+Sole n fs None = Absent n fs
+Sole n fs (Some f) = OnlyOne n fs f
+
+-- the input begins with a head that reads as v: each known field stands once at most
 pub record WellFormed (input : List ℕ) (v : Reading) : Type 0 where
   pub fields : List Entry
   pub parts : Parts input (v .path) fields (v .size)
-  pub known : v .table ≡ folded kept empty fields
+  pub known : (n : Name) → Sole n fields (slotOf (v .table) n)
   pub once : v .table .repeated ≡ None
 
 -- the same fields but for the letter case of their names

@@ -4,6 +4,7 @@ ghost use lib.ListN.{take};
 ghost use Rattle.packet.specs.declared.Fault.the-variants.{Text};
 ghost use Rattle.packet.specs.Faults.{numberOf, placeOf};
 ghost use Rattle.packet.specs.Packets.{packetOf, seen};
+ghost use Rattle.packet.specs.Laws.{Exact, Passed};
 use crate::judging::judge;
 use head::read_head;
 
@@ -90,6 +91,8 @@ fn parse(input: &[u8]) -> Result<Packet<'_>, Fault>
 // Reads the request that `input` begins with.
 pub fn read_packet(input: &[u8]) -> Result<Packet<'_>, Fault>
     ensures value { λ r. ⌜ seen r ≡ packetOf (now (input .entry)) ⌝ }
+    ensures exact { λ r. ⌜ Exact (now (input .entry)) (seen r) ⌝ }
+    ensures passed { λ r. ⌜ Passed (now (input .entry)) (seen r) ⌝ }
 {
     parse(input)
 }

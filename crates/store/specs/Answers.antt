@@ -1,7 +1,7 @@
 -- What a store answers.
 use mathlib.Core.Path.{_≡_}
 use mathlib.Core.List.{List, _++_}
-use Prim.Native.Nat.{ℕ, _-_, min}
+use Prim.Native.Nat.{ℕ, _-_, _≤_, min}
 use lib.ListN.{length, take, drop}
 use Rattle.std.specs.declared.option.Option.{Option}
 use Rattle.std.specs.declared.option.Option.the-variants.{Some, None}
@@ -38,3 +38,8 @@ copied None offset n = Err Absent
 abbrev pub filled : Option (List ℕ) → ℕ → List ℕ → List ℕ
 filled (Some b) offset page = take (portion b offset (length page)) (drop offset b) ++ drop (portion b offset (length page)) page
 filled None offset page = page
+
+-- a count stays within a page of so many bytes
+abbrev pub Within : Result ℕ Refusal → ℕ → Type 0
+Within (Ok n) m = n ≤ m
+Within (Err e) m = Unit {0}

@@ -1,7 +1,7 @@
 // What every store of uploaded bundles shows of itself: 16 slots to stage bytes in, and a catalog of published names.
 ghost use Prim.Native.Nat.{ℕ, _+_, _<_, _≤_, _^_};
 ghost use Rattle.std.specs.Results.{isOk};
-ghost use Rattle.store.specs.Answers.{Accepted, Refused, lengthOf, copied, filled};
+ghost use Rattle.store.specs.Answers.{Accepted, Refused, lengthOf, copied, filled, Within};
 ghost use Rattle.store.specs.Meaning.Change.{adding, clearing, publishing};
 ghost use Rattle.store.specs.Meaning.{Meaning, Change, Added, Cleared, Published, nameable};
 ghost use Rattle.store.specs.Whole.{Stored, Untouched};
@@ -71,7 +71,8 @@ pub trait Store {
 
     fn copy(&self, name: &[u8], offset: usize, page: &mut [u8]) -> Result<usize, Refusal>
         ensures answer { λ r. ⌜ r ≡ copied (meaning (now (self .entry)) .catalog (now (name .entry))) offset (length (now (page .entry))) ⌝ }
-        ensures page { λ r. ⌜ now (page .exit) ≡ filled (meaning (now (self .entry)) .catalog (now (name .entry))) offset (now (page .entry)) ⌝ };
+        ensures page { λ r. ⌜ now (page .exit) ≡ filled (meaning (now (self .entry)) .catalog (now (name .entry))) offset (now (page .entry)) ⌝ }
+        ensures within { λ r. ⌜ Within r (length (now (page .entry))) ⌝ };
 }
 
 // Puts a whole bundle under a name by way of a slot, whose old bytes are lost.

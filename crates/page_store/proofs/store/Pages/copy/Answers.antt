@@ -47,6 +47,7 @@ returns-then-n-gt0 c =
           ∙ (ap (λ (m : ℕ). take n (drop (c .args .offset) b) ++ drop m page) (omega arith)
           ∙ (ap (λ (m : ℕ). take m (drop (c .args .offset) b) ++ drop m page) q
           ∙ sym (ap (λ (o : Option ℕ). filled (publishedAt s o) (c .args .offset) page) e)));
+      within = le;
     }
 
 pub returns-else-n-gt0 : need.returns-else-n-gt0
@@ -61,4 +62,5 @@ returns-else-n-gt0 c =
     record {
       answer = sym (ap (λ (o : Option ℕ). copied (publishedAt s o) (c .args .offset) (length page)) e ∙ ap Ok (sym q));
       page = ap (λ (m : ℕ). take m (drop (c .args .offset) b) ++ drop m page) z ∙ sym (ap (λ (o : Option ℕ). filled (publishedAt s o) (c .args .offset) page) e);
+      within = omega (arith, c .if-n-gt0 .left);
     }

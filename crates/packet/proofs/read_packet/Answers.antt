@@ -1,0 +1,14 @@
+use mathlib.Core.Path.{_≡_, sym, subst}
+use Rattle.packet.specs.Laws.{Exact, Passed}
+use Rattle.packet.proofs.Wholes.{exact, passed}
+use Rattle.packet.proofs.read_packet.Needs as need
+
+pub returns : need.returns
+returns c =
+    let input = c .args .input .now in
+    let same = sym (c .parse .ensures) in
+    record {
+      value = c .parse .ensures;
+      exact = subst (Exact input) same (exact input);
+      passed = subst (Passed input) same (passed input)
+    }
