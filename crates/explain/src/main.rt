@@ -53,16 +53,20 @@ fn line_end(input: &[u8], at: usize) -> usize
     most
 }
 
-fn shown_line(input: &[u8], at: usize) -> Shown<'_>
-{
+fn shown_line(input: &[u8], at: usize) -> Shown<'_> {
     let end = line_end(input, at);
-    if at < end { Shown(&input[at..end]) } else { Shown(&input[0..0]) }
+    if at < end {
+        Shown(&input[at..end])
+    } else {
+        Shown(&input[0..0])
+    }
 }
 
 fn in_words(fault: Fault) -> &'static str {
     match fault {
         Fault::Text(head::Fault::Unfinished) => "the head has no empty line yet",
-        Fault::Text(head::Fault::Malformed(_)) => "a line of the head is bad, or the head does not end within 8192 bytes",
+        Fault::Text(head::Fault::Malformed(_)) =>
+            "a line of the head is bad, or the head does not end within 8192 bytes",
         Fault::Text(head::Fault::Repeated(_)) => "a known field stands again",
         Fault::Field(0) => "a field that the request needs is missing",
         Fault::Field(_) => "a field that the request needs has a bad value",
@@ -71,22 +75,41 @@ fn in_words(fault: Fault) -> &'static str {
 
 fn print_refusal(rt: &impl Print, input: &[u8], fault: Fault) -> io::Result<()> {
     let place = fault.place();
-    println!(rt, "refused, number {}, offset {place}: {}", fault.number(), in_words(fault))?;
+    println!(
+        rt,
+        "refused, number {}, offset {place}: {}",
+        fault.number(),
+        in_words(fault)
+    )?;
     println!(rt, "line at {place}: {}", shown_line(input, place))
 }
 
 fn print_id(rt: &impl Print, id: SessionId) -> io::Result<()> {
-    println!(rt, "session: site {:016x}, serial {:016x}", id.site, id.serial)
+    println!(
+        rt,
+        "session: site {:016x}, serial {:016x}",
+        id.site, id.serial
+    )
 }
 
 fn print_action(rt: &impl Print, action: Action) -> io::Result<()> {
     match action {
-        Action::Create { shared: true } => println!(rt, "type: CREATE-SESSION, our protocol is offered"),
-        Action::Create { shared: false } => println!(rt, "type: CREATE-SESSION, our protocol is not offered"),
+        Action::Create { shared: true } => println!(
+            rt,
+            "type: CREATE-SESSION, our protocol is offered"
+        ),
+        Action::Create { shared: false } => println!(
+            rt,
+            "type: CREATE-SESSION, our protocol is not offered"
+        ),
         Action::Ping => println!(rt, "type: PING"),
         Action::Fragment { id, range, at } => {
             println!(rt, "type: FRAGMENT")?;
-            println!(rt, "range: {} to {} of {}, line at {at}", range.first, range.last, range.total)?;
+            println!(
+                rt,
+                "range: {} to {} of {}, line at {at}",
+                range.first, range.last, range.total
+            )?;
             print_id(rt, id)
         }
         Action::Close { id } => {
@@ -104,7 +127,12 @@ fn print_packet(rt: &impl Print, packet: Packet) -> io::Result<()> {
     println!(rt, "path: {}", Shown(packet.path))?;
     print_action(rt, packet.action)?;
     println!(rt, "head: {} bytes", packet.head_size)?;
-    println!(rt, "body: {} of {} bytes", packet.body.len(), packet.content_length)
+    println!(
+        rt,
+        "body: {} of {} bytes",
+        packet.body.len(),
+        packet.content_length
+    )
 }
 
 fn explain(rt: &impl Print, input: &[u8]) -> io::Result<()> {

@@ -44,7 +44,7 @@ named-form at n line is some colon plain short =
       blanks-before = cut .blanks-before;
       blanks-after = cut .blanks-after;
       first = cut .first;
-      last = cut .last
+      last = cut .last;
     }
 
 pub field-sound : (at : ℕ) (line : List ℕ) (e : Entry) → fieldOf at line ≡ Some e → (e .at ≡ at) × FieldLine line (e .name) (e .value)
@@ -66,11 +66,11 @@ field-complete at line name value f =
     let whole = name ++ (58 ∷ tail) in
     let n-is : leading tokenByte whole ≡ length name = leading-append tokenByte name (58 ∷ tail) (f .token) ∙ omega arith in
     let go : namedTo (length name) at whole ≡ Some (record { at = at; name = name; value = value }) =
-          cond-true _ _ _ (and-from _ _ (le-leb 1 (length name) (f .named)) (eq-eqb _ 58 (getD-at name 58 tail 0 (length name) refl)))
-          ∙ ap (λ m. valued at m (trimmed (drop (length name + 1) whole))) (take-at name (58 ∷ tail) (length name) refl)
-          ∙ ap (λ m. valued at name (trimmed m)) (ap (drop (length name + 1)) (sym (append-assoc name (58 ∷ []) tail)) ∙ drop-at (name ++ 58 ∷ []) tail (length name + 1) (length-push name 58))
-          ∙ ap (valued at name) (trim-is (f .before) value (f .after) (f .blanks-before) (f .blanks-after) (f .first) (f .last))
-          ∙ cond-true _ _ _ (and-from _ _ (f .plain) (le-leb (length value) 4096 (f .short))) in
+    cond-true _ _ _ (and-from _ _ (le-leb 1 (length name) (f .named)) (eq-eqb _ 58 (getD-at name 58 tail 0 (length name) refl)))
+    ∙ ap (λ m. valued at m (trimmed (drop (length name + 1) whole))) (take-at name (58 ∷ tail) (length name) refl)
+    ∙ ap (λ m. valued at name (trimmed m)) (ap (drop (length name + 1)) (sym (append-assoc name (58 ∷ []) tail)) ∙ drop-at (name ++ 58 ∷ []) tail (length name + 1) (length-push name 58))
+    ∙ ap (valued at name) (trim-is (f .before) value (f .after) (f .blanks-before) (f .blanks-after) (f .first) (f .last))
+    ∙ cond-true _ _ _ (and-from _ _ (f .plain) (le-leb (length value) 4096 (f .short))) in
     ap (λ l. namedTo (leading tokenByte l) at l) (f .is) ∙ ap (λ m. namedTo m at whole) n-is ∙ go
 
 joined-field : (f : Option Entry) (at : ℕ) (rest : Result (List Entry) ℕ) (fs : List Entry) → joinField f at rest ≡ Ok fs → (e : Entry) × (es : List Entry) × (f ≡ Some e) × (rest ≡ Ok es) × (e ∷ es ≡ fs)

@@ -25,9 +25,9 @@ notCr b = not (eqb b 13)
 
 pub not-cr : (p : ℕ → Bool) → p 13 ≡ false → (b : ℕ) → p b ≡ true → notCr b ≡ true
 not-cr p h b t = elim (eqb b 13) as (λ v. eqb b 13 ≡ v → not v ≡ true) [
-      true ↦ λ e. absurd (true≢false (sym t ∙ ap p (eqb-true b 13 e) ∙ h))
-    | false ↦ λ e. refl
-    ] refl
+  | true ↦ λ e. absurd (true≢false (sym t ∙ ap p (eqb-true b 13 e) ∙ h))
+  | false ↦ λ e. refl
+] refl
 
 pub line-clean : (line name value : List ℕ) → FieldLine line name value → every notCr line ≡ true
 line-clean line name value f =
@@ -102,20 +102,20 @@ pub join-lines : (s : List ℕ) → joinLines (linesOf s) ≡ s
 join-lines [] = refl
 join-lines (b ∷ []) = elim (eqb b 13) as (λ v. joinLines (cond (v && false) ([] ∷ cutLines true []) (withByte b (cutLines false []))) ≡ b ∷ []) [ true ↦ refl | false ↦ refl ]
 join-lines (b ∷ c ∷ s) = elim (front lineEnd (b ∷ c ∷ s)) as (λ v. front lineEnd (b ∷ c ∷ s) ≡ v → joinLines (cond v ([] ∷ cutLines true (c ∷ s)) (withByte b (cutLines false (c ∷ s)))) ≡ b ∷ c ∷ s) [
-      true ↦ λ e.
-        let p = and-parts (eqb b 13) (eqb c 10 && true) e in
-        let q = and-parts (eqb c 10) true (p .1) in
-        led-join s ∙ ap (λ l. 13 ∷ 10 ∷ l) (join-lines s) ∙ ap (λ x. x ∷ 10 ∷ s) (sym (eqb-true b 13 (p .0))) ∙ ap (λ x. b ∷ x ∷ s) (sym (eqb-true c 10 (q .0)))
-    | false ↦ λ e. join-byte b (linesOf (c ∷ s)) ∙ ap (λ l. b ∷ l) (join-lines (c ∷ s))
-    ] refl
+  | true ↦ λ e.
+      let p = and-parts (eqb b 13) (eqb c 10 && true) e in
+      let q = and-parts (eqb c 10) true (p .1) in
+      led-join s ∙ ap (λ l. 13 ∷ 10 ∷ l) (join-lines s) ∙ ap (λ x. x ∷ 10 ∷ s) (sym (eqb-true b 13 (p .0))) ∙ ap (λ x. b ∷ x ∷ s) (sym (eqb-true c 10 (q .0)))
+  | false ↦ λ e. join-byte b (linesOf (c ∷ s)) ∙ ap (λ l. b ∷ l) (join-lines (c ∷ s))
+] refl
 
 -- a mark that was found stands there
 pub mark-sound : (m : List ℕ) (n : ℕ) (s : List ℕ) (k : ℕ) → markFrom m n s ≡ Some k → (a : List ℕ) × (b : List ℕ) × (s ≡ a ++ (m ++ b)) × (k ≡ n + length a)
 mark-sound m n [] k e = absurd (let z : _≡_ {A = ℕ} 0 1 = cc in omega arith)
 mark-sound m n (x ∷ s) k e = elim (front m (x ∷ s)) as (λ v. front m (x ∷ s) ≡ v → cond v (Some n) (markFrom m (n + 1) s) ≡ Some k → (a : List ℕ) × (b : List ℕ) × (x ∷ s ≡ a ++ (m ++ b)) × (k ≡ n + length a)) [
-      true ↦ λ t f. let same : n ≡ k = cc in ([], drop (length m) (x ∷ s), front-is m (x ∷ s) t, omega arith)
-    | false ↦ λ t f. let r = mark-sound m (n + 1) s k f in (x ∷ r .0, r .1, ap (λ l. x ∷ l) (r .2), omega (arith, r .3))
-    ] refl e
+  | true ↦ λ t f. let same : n ≡ k = cc in ([], drop (length m) (x ∷ s), front-is m (x ∷ s) t, omega arith)
+  | false ↦ λ t f. let r = mark-sound m (n + 1) s k f in (x ∷ r .0, r .1, ap (λ l. x ∷ l) (r .2), omega (arith, r .3))
+] refl e
 
 -- where none was found, none stands
 pub mark-none : (c : ℕ) (m : List ℕ) (n : ℕ) (s : List ℕ) → markFrom (c ∷ m) n s ≡ None → (a b : List ℕ) → s ≡ a ++ ((c ∷ m) ++ b) → ⊥
@@ -125,9 +125,9 @@ mark-none c m n (y ∷ s) e [] b h =
     let z : _≡_ {A = Option ℕ} (Some n) None = sym (cond-true _ _ _ (is-front (c ∷ m) (y ∷ s) b h)) ∙ e in
     let w : _≡_ {A = ℕ} 0 1 = cc in omega arith
 mark-none c m n (y ∷ s) e (x ∷ a) b h = elim (front (c ∷ m) (y ∷ s)) as (λ v. cond v (Some n) (markFrom (c ∷ m) (n + 1) s) ≡ None → ⊥) [
-      true ↦ λ f. let z : _≡_ {A = ℕ} 0 1 = cc in omega arith
-    | false ↦ λ f. mark-none c m (n + 1) s f a b (cc)
-    ] e
+  | true ↦ λ f. let z : _≡_ {A = ℕ} 0 1 = cc in omega arith
+  | false ↦ λ f. mark-none c m (n + 1) s f a b (cc)
+] e
 
 front-short : (p u v w : List ℕ) → length p ≤ length u → front p (u ++ v) ≡ front p (u ++ w)
 front-short [] u v w h = refl
@@ -139,14 +139,14 @@ pub mark-again : (m a b d : List ℕ) (n : ℕ) → 0 < length m → markFrom m 
 mark-again [] a b d n s e = absurd (omega arith)
 mark-again (c ∷ m) [] b d n s e = cond-true _ _ _ (is-front (c ∷ m) ((c ∷ m) ++ d) d refl) ∙ ap Some (omega arith)
 mark-again (c ∷ m) (x ∷ a) b d n s e = elim (front (c ∷ m) (x ∷ (a ++ ((c ∷ m) ++ b)))) as (λ v. front (c ∷ m) (x ∷ (a ++ ((c ∷ m) ++ b))) ≡ v → cond v (Some n) (markFrom (c ∷ m) (n + 1) (a ++ ((c ∷ m) ++ b))) ≡ Some (n + length (x ∷ a)) → markFrom (c ∷ m) n (x ∷ (a ++ ((c ∷ m) ++ d))) ≡ Some (n + length (x ∷ a))) [
-      true ↦ λ t f. absurd (let z : n ≡ n + length (x ∷ a) = cc in omega arith)
-    | false ↦ λ t f.
-        let same : n + 1 + length a ≡ n + length (x ∷ a) = omega arith in
-        let u = x ∷ (a ++ (c ∷ m)) in
-        let far : length (c ∷ m) ≤ length u = omega (arith, length-append a (c ∷ m)) in
-        let like : front (c ∷ m) (x ∷ (a ++ ((c ∷ m) ++ d))) ≡ front (c ∷ m) (x ∷ (a ++ ((c ∷ m) ++ b))) = ap (λ l. front (c ∷ m) (x ∷ l)) (sym (append-assoc a (c ∷ m) d)) ∙ front-short (c ∷ m) u d b far ∙ ap (λ l. front (c ∷ m) (x ∷ l)) (append-assoc a (c ∷ m) b) in
-        cond-false _ _ _ (like ∙ t) ∙ mark-again (c ∷ m) a b d (n + 1) s (f ∙ ap Some (sym same)) ∙ ap Some same
-    ] refl e
+  | true ↦ λ t f. absurd (let z : n ≡ n + length (x ∷ a) = cc in omega arith)
+  | false ↦ λ t f.
+      let same : n + 1 + length a ≡ n + length (x ∷ a) = omega arith in
+      let u = x ∷ (a ++ (c ∷ m)) in
+      let far : length (c ∷ m) ≤ length u = omega (arith, length-append a (c ∷ m)) in
+      let like : front (c ∷ m) (x ∷ (a ++ ((c ∷ m) ++ d))) ≡ front (c ∷ m) (x ∷ (a ++ ((c ∷ m) ++ b))) = ap (λ l. front (c ∷ m) (x ∷ l)) (sym (append-assoc a (c ∷ m) d)) ∙ front-short (c ∷ m) u d b far ∙ ap (λ l. front (c ∷ m) (x ∷ l)) (append-assoc a (c ∷ m) b) in
+      cond-false _ _ _ (like ∙ t) ∙ mark-again (c ∷ m) a b d (n + 1) s (f ∙ ap Some (sym same)) ∙ ap Some same
+] refl e
 
 pub take-front : (u v : List ℕ) (k : ℕ) → length u ≤ k → take k (u ++ v) ≡ u ++ take (k - length u) v
 take-front [] v k h = ap (λ j. take j v) (omega arith)

@@ -20,9 +20,9 @@ middle-is p = take-at p (codes " HTTP/1.1") (length (requestOf p) - 19) (omega (
 pub path-none : (line : List ℕ) → ((p : List ℕ) → line ≡ requestOf p → ⊥) → None ≡ pathOf line
 unfolding pathOf
 path-none line n = elim (sameBytes line (requestOf (middle line))) as (λ b. sameBytes line (requestOf (middle line)) ≡ b → None ≡ cond (b && goodPath (middle line)) (Some (middle line)) None) [
-      true ↦ λ e. absurd (n (middle line) (sameBytes-decides line (requestOf (middle line)) .0 e))
-    | false ↦ λ e. refl
-    ] refl
+  | true ↦ λ e. absurd (n (middle line) (sameBytes-decides line (requestOf (middle line)) .0 e))
+  | false ↦ λ e. refl
+] refl
 
 pub path-is : (line p : List ℕ) → line ≡ requestOf p → cond (goodPath p) (Some p) None ≡ pathOf line
 unfolding pathOf

@@ -25,9 +25,9 @@ use Rattle.head.specs.Loops.{withLine, linesAfter, andThen}
 pub lines-more : (s : List ℕ) → linesOf s ≡ take (lineLength s) s ∷ linesAfter (drop (lineLength s) s)
 lines-more [] = refl
 lines-more (b ∷ bs) = elim (front lineEnd (b ∷ bs)) as (λ v. front lineEnd (b ∷ bs) ≡ v → cond v ([] ∷ cutLines true bs) (withByte b (cutLines false bs)) ≡ take (cond v 0 (1 + lineLength bs)) (b ∷ bs) ∷ linesAfter (drop (cond v 0 (1 + lineLength bs)) (b ∷ bs))) [
-      true ↦ λ e. ap (λ ls. [] ∷ ls) (second bs (and-parts (eqb b 13) (front (10 ∷ []) bs) e .1))
-    | false ↦ λ e. ap (withByte b) (lines-more bs) ∙ ap (λ n. take n (b ∷ bs) ∷ linesAfter (drop n (b ∷ bs))) (sym (one-add (lineLength bs)))
-    ] refl where
+  | true ↦ λ e. ap (λ ls. [] ∷ ls) (second bs (and-parts (eqb b 13) (front (10 ∷ []) bs) e .1))
+  | false ↦ λ e. ap (withByte b) (lines-more bs) ∙ ap (λ n. take n (b ∷ bs) ∷ linesAfter (drop n (b ∷ bs))) (sym (one-add (lineLength bs)))
+] refl where
   second : (cs : List ℕ) → front (10 ∷ []) cs ≡ true → cutLines true cs ≡ linesAfter (b ∷ cs)
   second [] e = absurd (false≢true e)
   second (c ∷ cs) e = sym (cond-true _ _ _ (le-leb 2 (suc (suc (length cs))) (omega arith)))

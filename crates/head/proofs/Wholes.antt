@@ -57,9 +57,9 @@ record Ended (input : List ℕ) (n : ℕ) : Type 0 where
 in-time-ok : (input : List ℕ) (o : Option ℕ) (n : ℕ) → inTime input o ≡ Ok n → o ≡ Some n
 in-time-ok input (Some m) n e = let same : m ≡ n = cc in ap Some same
 in-time-ok input None n e = elim (ltb (length input) 8192) as (λ v. cond v (Err Unfinished) (Err (Malformed 0)) ≡ Ok n → None ≡ Some n) [
-      true ↦ λ f. absurd (let z : _≡_ {A = ℕ} 0 1 = cc in omega arith)
-    | false ↦ λ f. absurd (let z : _≡_ {A = ℕ} 0 1 = cc in omega arith)
-    ] e
+  | true ↦ λ f. absurd (let z : _≡_ {A = ℕ} 0 1 = cc in omega arith)
+  | false ↦ λ f. absurd (let z : _≡_ {A = ℕ} 0 1 = cc in omega arith)
+] e
 
 ended-by : (input : List ℕ) (n : ℕ) (body tail : List ℕ) → markFrom headMark 0 (take 8192 input) ≡ Some n → take 8192 input ≡ body ++ (headMark ++ tail) → n ≡ 0 + length body → Ended input n
 ended-by input n body tail some is n-is =
@@ -156,7 +156,7 @@ read-parts input line lines path n fs end cut p f =
       hold = subst (λ l. FieldLines (length l + 2) lines fs) (pth .0) (fields .0);
       few = fields .1;
       sized = ap (λ b. b + 4) (end .long ∙ ap length body-joined);
-      in-time = omega (arith, end .long, end .soon)
+      in-time = omega (arith, end .long, end .soon);
     }
 
 judged-parts : (input : List ℕ) (n : ℕ) (ls : List (List ℕ)) (v : Reading) → Ended input n → linesOf (take n input) ≡ ls → judged n ls ≡ Ok v → WellFormed input v
@@ -180,10 +180,10 @@ sound input v e =
 
 pub exact : (input : List ℕ) → Exact input (headOf input)
 exact input = record {
-    sound = sound input;
-    complete = complete input;
-    unique = λ v w p q. let e = sym (complete input v p) ∙ complete input w q in cc
-  }
+  sound = sound input;
+  complete = complete input;
+  unique = λ v w p q. let e = sym (complete input v p) ∙ complete input w q in cc;
+}
 
 -- a head lies in its input
 pub size-within : (input : List ℕ) (r : Result Head Fault) → seen r ≡ headOf input → made r (λ h. h .size ≤ length input)
@@ -199,6 +199,7 @@ not-unfinished n (line ∷ lines) e = with-path (pathOf line) (fieldsOf 64 (leng
   with-once : (path : List ℕ) (o : Option ℕ) (k : Table) → unrepeated path n o k ≡ Err Unfinished → ⊥
   with-once path None k f = let z : _≡_ {A = ℕ} 0 1 = cc in omega arith
   with-once path (Some at) k f = let z : _≡_ {A = ℕ} 0 1 = cc in omega arith
+
   with-path : (o : Option (List ℕ)) (r : Result (List Entry) ℕ) → withPath n o (gathered empty r) ≡ Err Unfinished → ⊥
   with-path None r f = let z : _≡_ {A = ℕ} 0 1 = cc in omega arith
   with-path (Some path) (Ok fs) f = with-once path (folded kept empty fs .repeated) (folded kept empty fs) f
@@ -211,9 +212,9 @@ unfinished-end input (Err f) e = let same : f ≡ Unfinished = cc in ap Err same
 unfinished-mark : (input : List ℕ) (o : Option ℕ) → inTime input o ≡ Err Unfinished → (length input < 8192) × (o ≡ None)
 unfinished-mark input (Some n) e = absurd (let z : _≡_ {A = ℕ} 0 1 = cc in omega arith)
 unfinished-mark input None e = elim (ltb (length input) 8192) as (λ v. ltb (length input) 8192 ≡ v → _≡_ {A = Result ℕ Fault} (cond v (Err Unfinished) (Err (Malformed 0))) (Err Unfinished) → (length input < 8192) × (_≡_ {A = Option ℕ} None None)) [
-      true ↦ λ t f. (ltb-true (length input) 8192 t, refl)
-    | false ↦ λ t f. absurd (let z : _≡_ {A = ℕ} 0 1 = cc in omega arith)
-    ] refl e
+  | true ↦ λ t f. (ltb-true (length input) 8192 t, refl)
+  | false ↦ λ t f. absurd (let z : _≡_ {A = ℕ} 0 1 = cc in omega arith)
+] refl e
 
 pub no-head : (input : List ℕ) → NoHead input (headOf input)
 unfolding headOf endOf

@@ -86,12 +86,30 @@ fn with_slot<'a>(fields: Fields<'a>, name: Name, known: Known<'a>) -> Fields<'a>
     ensures { λ r. ⌜ table r ≡ withSlot (table (fields .entry)) name (found (known .entry)) ⌝ }
 {
     match name {
-        Name::ContentLength => Fields { content_length: Some(known), ..fields },
-        Name::PacketType => Fields { packet_type: Some(known), ..fields },
-        Name::SessionId => Fields { session_id: Some(known), ..fields },
-        Name::ContentRange => Fields { content_range: Some(known), ..fields },
-        Name::ContentEncoding => Fields { content_encoding: Some(known), ..fields },
-        Name::SupportedProtocols => Fields { supported_protocols: Some(known), ..fields },
+        Name::ContentLength => Fields {
+            content_length: Some(known),
+            ..fields
+        },
+        Name::PacketType => Fields {
+            packet_type: Some(known),
+            ..fields
+        },
+        Name::SessionId => Fields {
+            session_id: Some(known),
+            ..fields
+        },
+        Name::ContentRange => Fields {
+            content_range: Some(known),
+            ..fields
+        },
+        Name::ContentEncoding => Fields {
+            content_encoding: Some(known),
+            ..fields
+        },
+        Name::SupportedProtocols => Fields {
+            supported_protocols: Some(known),
+            ..fields
+        },
     }
 }
 
@@ -100,7 +118,10 @@ fn repeated_at<'a>(fields: Fields<'a>, at: usize) -> Fields<'a>
     ensures { λ r. ⌜ table r ≡ again (table (fields .entry)) at ⌝ }
 {
     match fields.repeated {
-        None => Fields { repeated: Some(at), ..fields },
+        None => Fields {
+            repeated: Some(at),
+            ..fields
+        },
         Some(_) => fields,
     }
 }
@@ -122,7 +143,14 @@ fn with_line<'a>(fields: Fields<'a>, at: usize, line: &'a [u8]) -> Result<Fields
 {
     match read_field(at, line) {
         None => Err(Fault::Malformed(at)),
-        Some(f) => Ok(keep(fields, name_of(f.name), Known { at: f.at, value: f.value })),
+        Some(f) => Ok(keep(
+            fields,
+            name_of(f.name),
+            Known {
+                at: f.at,
+                value: f.value,
+            },
+        )),
     }
 }
 
@@ -150,5 +178,9 @@ pub(crate) fn read_fields(body: &[u8], first: usize) -> Result<Fields<'_>, Fault
         fields = with_line(fields, at, &body[at..at + n])?;
         end = at + n;
     }
-    if body.len() - end < 2 { Ok(fields) } else { Err(Fault::Malformed(end + 2)) }
+    if body.len() - end < 2 {
+        Ok(fields)
+    } else {
+        Err(Fault::Malformed(end + 2))
+    }
 }

@@ -74,7 +74,11 @@ fn parse(input: &[u8]) -> Result<Head<'_>, Fault>
     if let Some(at) = fields.repeated {
         return Err(Fault::Repeated(at));
     }
-    Ok(Head { path, fields, size: mark + 4 })
+    Ok(Head {
+        path,
+        fields,
+        size: mark + 4,
+    })
 }
 
 // Reads the head that `input` begins with.

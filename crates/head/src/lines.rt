@@ -50,7 +50,8 @@ fn is_path(p: &[u8]) -> bool
 pub(crate) fn read_path(line: &[u8]) -> Option<&[u8]>
     ensures { λ r. ⌜ mapped (λ p. now p) r ≡ pathOf (now (line .entry)) ⌝ }
 {
-    let path = line.strip_prefix(b"BITS_POST ")?.strip_suffix(b" HTTP/1.1")?;
+    let path = line.strip_prefix(b"BITS_POST ")?
+        .strip_suffix(b" HTTP/1.1")?;
     if is_path(path) { Some(path) } else { None }
 }
 

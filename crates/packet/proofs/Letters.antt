@@ -14,6 +14,6 @@ use Rattle.text.specs.Words.{sameLetters}
 pub letters-long : (a b : List ℕ) → (length a ≡ length b → ⊥) → sameLetters a b ≡ false
 unfolding sameLetters
 letters-long a b n = elim (sameBytes (map lower a) (map lower b)) as (λ v. sameBytes (map lower a) (map lower b) ≡ v → v ≡ false) [
-      true ↦ λ e. absurd (n (sym (length-map a lower) ∙ ap length (sameBytes-decides (map lower a) (map lower b) .0 e) ∙ length-map b lower))
-    | false ↦ λ e. refl
-    ] refl
+  | true ↦ λ e. absurd (n (sym (length-map a lower) ∙ ap length (sameBytes-decides (map lower a) (map lower b) .0 e) ∙ length-map b lower))
+  | false ↦ λ e. refl
+] refl

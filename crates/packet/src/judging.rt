@@ -19,12 +19,22 @@ use text::same_letters;
 #[derive(Clone, Copy)]
 pub enum Action {
     // whether our protocol is among those offered
-    Create { shared: bool },
+    Create {
+        shared: bool,
+    },
     Ping,
     // `at` is the offset of the range's line
-    Fragment { id: SessionId, range: Range, at: usize },
-    Close { id: SessionId },
-    Cancel { id: SessionId },
+    Fragment {
+        id: SessionId,
+        range: Range,
+        at: usize,
+    },
+    Close {
+        id: SessionId,
+    },
+    Cancel {
+        id: SessionId,
+    },
 }
 
 #[derive(Clone, Copy)]
@@ -148,18 +158,28 @@ fn judge_fragment(fields: Fields) -> Result<Action, Fault>
     let line = required(fields.content_range)?;
     let range = read_range(line.value).ok_or(Fault::Field(line.at))?;
     judge_encoding(fields)?;
-    Ok(Action::Fragment { id, range, at: line.at })
+    Ok(Action::Fragment {
+        id,
+        range,
+        at: line.at,
+    })
 }
 
 fn judge_action(kind: Kind, fields: Fields) -> Result<Action, Fault>
     ensures { λ r. ⌜ r ≡ actionOf kind (table (fields .entry)) ⌝ }
 {
     match kind {
-        Kind::Create => Ok(Action::Create { shared: judge_protocols(fields)? }),
+        Kind::Create => Ok(Action::Create {
+            shared: judge_protocols(fields)?,
+        }),
         Kind::Ping => Ok(Action::Ping),
         Kind::Fragment => judge_fragment(fields),
-        Kind::Close => Ok(Action::Close { id: judge_id(fields)? }),
-        Kind::Cancel => Ok(Action::Cancel { id: judge_id(fields)? }),
+        Kind::Close => Ok(Action::Close {
+            id: judge_id(fields)?,
+        }),
+        Kind::Cancel => Ok(Action::Cancel {
+            id: judge_id(fields)?,
+        }),
     }
 }
 

@@ -9,7 +9,10 @@ use text::Kind;
 use text::lead;
 
 // {7df0354d-249b-430f-820d-3d2a9bef4931}
-const OURS: SessionId = SessionId { site: 0x7df0_354d_249b_430f, serial: 0x820d_3d2a_9bef_4931 };
+const OURS: SessionId = SessionId {
+    site: 0x7df0_354d_249b_430f,
+    serial: 0x820d_3d2a_9bef_4931,
+};
 
 const ID_SIZE: usize = 38;
 

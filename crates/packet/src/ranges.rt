@@ -32,7 +32,10 @@ fn number_before(s: &[u8], mark: u8) -> Option<Left<'_>>
         return None;
     }
     let number = read_decimal(&s[0..n])?;
-    Some(Left { number, rest: &s[n + 1..] })
+    Some(Left {
+        number,
+        rest: &s[n + 1..],
+    })
 }
 
 fn read_span(s: &[u8]) -> Option<Range>
@@ -41,7 +44,11 @@ fn read_span(s: &[u8]) -> Option<Range>
     let first = number_before(s, b'-')?;
     let last = number_before(first.rest, b'/')?;
     let total = read_decimal(last.rest)?;
-    Some(Range { first: first.number, last: last.number, total })
+    Some(Range {
+        first: first.number,
+        last: last.number,
+        total,
+    })
 }
 
 pub(crate) fn read_range(value: &[u8]) -> Option<Range>

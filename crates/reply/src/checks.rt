@@ -1,5 +1,6 @@
 // Made from bytes that pass, and read back.
 ghost use mathlib.Core.Path.{_≡_};
+ghost use mathlib.Core.List.{[]};
 ghost use Prim.Native.Nat.{_≤_};
 ghost use lib.ListN.{length};
 ghost use Rattle.std.specs.Numbers.{Checked};
@@ -41,6 +42,16 @@ impl ReplyAddress {
         let len = s.len();
         bytes[0..len].copy_from_slice(s);
         Some(ReplyAddress { bytes, len })
+    }
+
+    // The address of no bytes: none is told.
+    pub fn empty() -> Self
+        ensures { λ r. ⌜ bytesOf r ≡ [] ⌝ }
+    {
+        ReplyAddress {
+            bytes: [0; MOST],
+            len: 0,
+        }
     }
 
     pub fn as_bytes(&self) -> &[u8]

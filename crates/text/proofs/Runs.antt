@@ -17,16 +17,16 @@ use Rattle.text.specs.Words.{trimFront, trimEnd, trimmed}
 
 same-step : (m n : ℕ) → eqb (1 + m) (suc n) ≡ eqb m n
 same-step m n = elim (eqb m n) as (λ v. eqb m n ≡ v → eqb (1 + m) (suc n) ≡ v) [
-      true ↦ λ e. eq-eqb (1 + m) (suc n) (omega (arith, eqb-true m n e))
-    | false ↦ λ e. ne-eqb (1 + m) (suc n) (λ h. eqb-false m n e (omega arith))
-    ] refl
+  | true ↦ λ e. eq-eqb (1 + m) (suc n) (omega (arith, eqb-true m n e))
+  | false ↦ λ e. ne-eqb (1 + m) (suc n) (λ h. eqb-false m n e (omega arith))
+] refl
 
 pub every-is : (p : ℕ → Bool) (s : List ℕ) → eqb (leading p s) (length s) ≡ every p s
 every-is p [] = refl
 every-is p (b ∷ bs) = elim (p b) as (λ v. eqb (cond v (1 + leading p bs) 0) (suc (length bs)) ≡ (v && every p bs)) [
-      true ↦ same-step (leading p bs) (length bs) ∙ every-is p bs
-    | false ↦ ne-eqb 0 (suc (length bs)) (λ h. omega arith)
-    ]
+  | true ↦ same-step (leading p bs) (length bs) ∙ every-is p bs
+  | false ↦ ne-eqb 0 (suc (length bs)) (λ h. omega arith)
+]
 
 -- a front of which every byte passes
 pub leading-append : (p : ℕ → Bool) (a s : List ℕ) → every p a ≡ true → leading p (a ++ s) ≡ length a + leading p s
@@ -43,17 +43,17 @@ leading-none p (b ∷ bs) h = cond-false (p b) (1 + leading p bs) 0 h
 pub leading-every : (p : ℕ → Bool) (s : List ℕ) → every p (take (leading p s) s) ≡ true
 leading-every p [] = refl
 leading-every p (b ∷ bs) = elim (p b) as (λ v. p b ≡ v → every p (take (cond v (1 + leading p bs) 0) (b ∷ bs)) ≡ true) [
-      true ↦ λ e. ap (λ n. every p (take n (b ∷ bs))) (one-add (leading p bs)) ∙ and-from (p b) (every p (take (leading p bs) bs)) e (leading-every p bs)
-    | false ↦ λ e. refl
-    ] refl
+  | true ↦ λ e. ap (λ n. every p (take n (b ∷ bs))) (one-add (leading p bs)) ∙ and-from (p b) (every p (take (leading p bs) bs)) e (leading-every p bs)
+  | false ↦ λ e. refl
+] refl
 
 -- the byte behind it does not pass, nor does 0, which stands for the end
 pub leading-stops : (p : ℕ → Bool) (s : List ℕ) → p 0 ≡ false → p (getD s (leading p s) 0) ≡ false
 leading-stops p [] h = h
 leading-stops p (b ∷ bs) h = elim (p b) as (λ v. p b ≡ v → p (getD (b ∷ bs) (cond v (1 + leading p bs) 0) 0) ≡ false) [
-      true ↦ λ e. ap (λ n. p (getD (b ∷ bs) n 0)) (one-add (leading p bs)) ∙ leading-stops p bs h
-    | false ↦ λ e. e
-    ] refl
+  | true ↦ λ e. ap (λ n. p (getD (b ∷ bs) n 0)) (one-add (leading p bs)) ∙ leading-stops p bs h
+  | false ↦ λ e. e
+] refl
 
 pub every-append : (p : ℕ → Bool) (a b : List ℕ) → every p a ≡ true → every p b ≡ true → every p (a ++ b) ≡ true
 every-append p [] b h k = k
@@ -128,12 +128,12 @@ trim-cut s =
     let few = ending-le-length blank rest in
     let m = length rest - k in
     let lastOne : blank (getD (take m rest) (length (take m rest) - 1) 0) ≡ false = elim (cases-lt 0 m) [
-          inl h ↦
-            let long = length-take-le m rest (omega arith) in
-            let at : length (take m rest) - 1 ≡ length rest - 1 - k = omega (arith, long) in
-            ap blank (ap (λ j. getD (take m rest) j 0) at ∙ getD-take m rest (length rest - 1 - k) 0 (omega arith) ∙ sym (getD-reverse rest k 0 (omega arith))) ∙ leading-stops blank (reverse rest) refl
-        | inr h ↦ ap blank (getD-past (take m rest) (length (take m rest) - 1) 0 (omega (arith, length-take-le m rest (omega arith))))
-        ] in
+      | inl h ↦
+          let long = length-take-le m rest (omega arith) in
+          let at : length (take m rest) - 1 ≡ length rest - 1 - k = omega (arith, long) in
+          ap blank (ap (λ j. getD (take m rest) j 0) at ∙ getD-take m rest (length rest - 1 - k) 0 (omega arith) ∙ sym (getD-reverse rest k 0 (omega arith))) ∙ leading-stops blank (reverse rest) refl
+      | inr h ↦ ap blank (getD-past (take m rest) (length (take m rest) - 1) 0 (omega (arith, length-take-le m rest (omega arith))))
+    ] in
     record {
       before = take n s;
       after = drop m rest;
@@ -141,5 +141,5 @@ trim-cut s =
       blanks-before = leading-every blank s;
       blanks-after = subst (λ l. every blank l ≡ true) (reverse-reverse (drop m rest)) (every-reverse blank (reverse (drop m rest)) (subst (λ l. every blank l ≡ true) (take-reverse k rest few) (leading-every blank (reverse rest))));
       first = front-of m rest (ap blank (getD-drop n s 0 0) ∙ ap (λ j. blank (getD s j 0)) (omega arith) ∙ leading-stops blank s refl);
-      last = lastOne
+      last = lastOne;
     }

@@ -13,5 +13,5 @@ returns c =
       exact = subst (Exact input) same (exact input);
       unfinished = subst (NoHead input) same (no-head input);
       fenced = subst (Fenced input) same (fenced input);
-      caseless = subst (Caseless input) same (caseless input)
+      caseless = subst (Caseless input) same (caseless input);
     }

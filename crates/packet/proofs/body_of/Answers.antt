@@ -10,9 +10,9 @@ use Rattle.packet.proofs.body_of.Needs as need
 
 part : (s : List ℕ) (m n : ℕ) → m ≡ min n (length s) → take (m - 0) s ≡ take n s
 part s m n e = elim (cases-lt (length s) n) [
-      inl h ↦ take-all (m - 0) s (omega arith) ∙ sym (take-all n s (omega arith))
-    | inr h ↦ let same : m - 0 ≡ n = omega arith in ap (λ k. take k s) same
-    ]
+  | inl h ↦ take-all (m - 0) s (omega arith) ∙ sym (take-all n s (omega arith))
+  | inr h ↦ let same : m - 0 ≡ n = omega arith in ap (λ k. take k s) same
+]
 
 pub returns : need.returns
 returns c = part (c .args .rest .now) (c .min-present .result) (c .args .announced) (c .min-present .ensures)

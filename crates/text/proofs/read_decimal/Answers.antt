@@ -50,8 +50,8 @@ pub returns-then-is-empty : need.returns-then-is-empty
 returns-then-is-empty c = no-number (c .args .s .now) (λ t.
     let p = parts (c .args .s .now) t in
     elim (c .then-is-empty .either) [
-      inl e ↦ omega (arith, eqb-true (length (c .args .s .now)) 0 (sym (c .is-empty .ensures) ∙ e))
-    | inr e ↦ omega (arith, e .1)
+      | inl e ↦ omega (arith, eqb-true (length (c .args .s .now)) 0 (sym (c .is-empty .ensures) ∙ e))
+      | inr e ↦ omega (arith, e .1)
     ])
 
 pub returns-then-not-is-ascii-digit : need.returns-then-not-is-ascii-digit

@@ -28,8 +28,8 @@ returns c =
     let s = c .args .s .now in
     let n = c .loop-n .n in
     elim (c .loop-n-test .came) [
-      then-loop-n-test·else-passes w ↦
-        let none = ending-take-no blank s n 0 (w .loop-n-test .taken) (c .loop-n .inv .0) (sym (w .if-passes .ensures tt)) in
-        trim-at s n (c .loop-n .inv .1) (omega (arith, none))
-    | else-loop-n-test w ↦ trim-at s n (c .loop-n .inv .1) (omega (arith, ending-le-length blank (take n s), length-take n s))
+      | then-loop-n-test·else-passes w ↦
+          let none = ending-take-no blank s n 0 (w .loop-n-test .taken) (c .loop-n .inv .0) (sym (w .if-passes .ensures tt)) in
+          trim-at s n (c .loop-n .inv .1) (omega (arith, none))
+      | else-loop-n-test w ↦ trim-at s n (c .loop-n .inv .1) (omega (arith, ending-le-length blank (take n s), length-take n s))
     ]

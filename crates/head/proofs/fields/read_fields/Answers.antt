@@ -37,12 +37,13 @@ loop-done-again c =
     let at = c .loop-done .end + 2 in
     let n = c .line-length-n .result in
     let less : 64 - (c .loop-done .-done + 1) ≡ 64 - c .loop-done .-done - 1 = omega arith in
-    let rest = linesAfter (drop (at + n) xs) in
-    (omega (arith, c .line-length-n .ensures .within, ap length (take-rest xs at), length-drop at xs, c .loop-done .inv .0, c .if-body-end-lt2 .left),
-    ap (λ m. gathered (table (c .in-Continue-fields .fields)) (fieldsOf m (at + n + 2) rest)) less
-    ∙ sym (ap (λ r. andThen r (λ t′. gathered t′ (fieldsOf (64 - c .loop-done .-done - 1) (at + n + 2) rest))) (ap tabled (c .in-Continue-fields .was tt)))
-    ∙ sym (gather-turn xs (64 - c .loop-done .-done) (c .loop-done .end) n (table (c .loop-done .fields)) _ (c .if-body-end-lt2 .left) (omega (arith, c .loop-done-test .taken)) (c .line-length-n .ensures .value) (c .line-length-n .ensures .within) (c .with-line .ensures))
-    ∙ c .loop-done .inv .1)
+    let rest = linesAfter (drop (at + n) xs) in (
+      omega (arith, c .line-length-n .ensures .within, ap length (take-rest xs at), length-drop at xs, c .loop-done .inv .0, c .if-body-end-lt2 .left),
+      ap (λ m. gathered (table (c .in-Continue-fields .fields)) (fieldsOf m (at + n + 2) rest)) less
+          ∙ sym (ap (λ r. andThen r (λ t′. gathered t′ (fieldsOf (64 - c .loop-done .-done - 1) (at + n + 2) rest))) (ap tabled (c .in-Continue-fields .was tt)))
+          ∙ sym (gather-turn xs (64 - c .loop-done .-done) (c .loop-done .end) n (table (c .loop-done .fields)) _ (c .if-body-end-lt2 .left) (omega (arith, c .loop-done-test .taken)) (c .line-length-n .ensures .value) (c .line-length-n .ensures .within) (c .with-line .ensures))
+          ∙ c .loop-done .inv .1,
+    )
 
 pub returns-then-body-end-lt2-2 : need.returns-then-body-end-lt2-2
 returns-then-body-end-lt2-2 c = sym (gather-none (c .args .body .now) (c .loop-done .end) (64 - c .loop-done .-done) (table (c .loop-done .fields)) (c .if-body-end-lt2-2 .taken)) ∙ c .loop-done .inv .1

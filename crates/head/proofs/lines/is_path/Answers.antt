@@ -14,8 +14,8 @@ pub returns-then-p-eq0 : need.returns-then-p-eq0
 returns-then-p-eq0 c =
     let p = c .args .p .now in
     elim (c .then-p-eq0 .either) [
-      inl e ↦ sym (and-left _ _ (ne-eqb (getD p 0 0) 47 (λ h. omega (arith, getD-past p 0 0 (omega (arith, e))))))
-    | inr e ↦ sym (and-right (eqb (getD p 0 0) 47) _ (and-left _ _ (lt-leb (length p) 128 (e .1))))
+      | inl e ↦ sym (and-left _ _ (ne-eqb (getD p 0 0) 47 (λ h. omega (arith, getD-past p 0 0 (omega (arith, e))))))
+      | inr e ↦ sym (and-right (eqb (getD p 0 0) 47) _ (and-left _ _ (lt-leb (length p) 128 (e .1))))
     ]
 
 pub returns-then-p-ne47 : need.returns-then-p-ne47

@@ -27,8 +27,8 @@ returns-then-n-eq0 c =
     let n = c .lead-n .result in
     let at = c .args .at in
     elim (c .then-n-eq0 .either) [
-      inl e ↦ no-name n at line e
-    | inr e ↦ no-colon n at line (λ h. omega (arith, getD-past line n 0 (omega (arith, e .1))))
+      | inl e ↦ no-name n at line e
+      | inr e ↦ no-colon n at line (λ h. omega (arith, getD-past line n 0 (omega (arith, e .1))))
     ] ∙ ap (λ m. namedTo m at line) (c .lead-n .ensures .value)
 
 pub returns-then-line-n-ne58 : need.returns-then-line-n-ne58

@@ -13,9 +13,9 @@ use Rattle.head.proofs.marks.head_mark.Needs as need
 
 front-part : (xs : List ℕ) (m : ℕ) → m ≡ min (length xs) 8192 → take (m - 0) xs ≡ take 8192 xs
 front-part xs m e = elim (cases-lt (length xs) 8192) [
-      inl h ↦ take-all (m - 0) xs (omega arith) ∙ sym (take-all 8192 xs (omega arith))
-    | inr h ↦ let same : m - 0 ≡ 8192 = omega arith in ap (λ k. take k xs) same
-    ]
+  | inl h ↦ take-all (m - 0) xs (omega arith) ∙ sym (take-all 8192 xs (omega arith))
+  | inr h ↦ let same : m - 0 ≡ 8192 = omega arith in ap (λ k. take k xs) same
+]
 
 pub returns-in-Some : need.returns-in-Some
 unfolding endOf
@@ -24,7 +24,7 @@ returns-in-Some c =
     let part = front-part xs _ (c .min .ensures) in
     record {
       value = ap (inTime xs) (c .in-Some .ensures tt .value ∙ ap (markFrom headMark 0) part);
-      within = omega (arith, c .in-Some .ensures tt .within, ap length part, length-take 8192 xs)
+      within = omega (arith, c .in-Some .ensures tt .within, ap length part, length-take 8192 xs);
     }
 
 pub returns-then-input-lt-MOST-HEAD : need.returns-then-input-lt-MOST-HEAD
@@ -34,7 +34,7 @@ returns-then-input-lt-MOST-HEAD c =
     let part = front-part xs _ (c .min .ensures) in
     record {
       value = sym (cond-true _ _ _ (lt-ltb (length xs) 8192 (c .if-input-lt-MOST-HEAD .taken))) ∙ ap (inTime xs) (c .in-None .ensures tt .value ∙ ap (markFrom headMark 0) part);
-      within = tt
+      within = tt;
     }
 
 pub returns-else-input-lt-MOST-HEAD : need.returns-else-input-lt-MOST-HEAD
@@ -44,5 +44,5 @@ returns-else-input-lt-MOST-HEAD c =
     let part = front-part xs _ (c .min .ensures) in
     record {
       value = sym (cond-false _ _ _ (le-ltb (length xs) 8192 (c .if-input-lt-MOST-HEAD .left))) ∙ ap (inTime xs) (c .in-None .ensures tt .value ∙ ap (markFrom headMark 0) part);
-      within = tt
+      within = tt;
     }

@@ -1,0 +1,5 @@
+pub mod Sessions
+pub mod Rules
+pub mod Wanted
+pub mod Plans
+pub mod Steps
