@@ -7,7 +7,7 @@ use Rattle.std.specs.declared.option.Option.{Option}
 use Rattle.std.specs.declared.option.Option.the-variants.{Some, None}
 use Rattle.head.specs.declared.fields.Name.{Name}
 use Rattle.head.specs.declared.fields.Name.the-variants.{ContentLength, PacketType, SessionId, ContentRange, ContentEncoding, SupportedProtocols}
-use Rattle.head.specs.Heads.{Found, Table, slotOf, withSlot}
+use Rattle.head.specs.Heads.{Found, Table, slotOf, withSlot, again}
 
 -- a slot that was filled, and the others
 pub slot-with : (t : Table) (f : Found) (m n : Name) → ((m ≡ n) × (slotOf (withSlot t m f) n ≡ Some f)) ⊎ ((m ≡ n → ⊥) × (slotOf (withSlot t m f) n ≡ slotOf t n))
@@ -65,3 +65,11 @@ table-same t u same again =
     ∙ ap (λ x. record { contentLength = u .contentLength; packetType = u .packetType; sessionId = u .sessionId; contentRange = u .contentRange; contentEncoding = x; supportedProtocols = t .supportedProtocols; repeated = t .repeated }) (same ContentEncoding)
     ∙ ap (λ x. record { contentLength = u .contentLength; packetType = u .packetType; sessionId = u .sessionId; contentRange = u .contentRange; contentEncoding = u .contentEncoding; supportedProtocols = x; repeated = t .repeated }) (same SupportedProtocols)
     ∙ ap (λ x. record { contentLength = u .contentLength; packetType = u .packetType; sessionId = u .sessionId; contentRange = u .contentRange; contentEncoding = u .contentEncoding; supportedProtocols = u .supportedProtocols; repeated = x }) again
+
+pub again-slot : (t : Table) (at : ℕ) (n : Name) → slotOf (again t at) n ≡ slotOf t n
+again-slot t at ContentLength = refl
+again-slot t at PacketType = refl
+again-slot t at SessionId = refl
+again-slot t at ContentRange = refl
+again-slot t at ContentEncoding = refl
+again-slot t at SupportedProtocols = refl

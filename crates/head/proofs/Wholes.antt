@@ -235,7 +235,7 @@ fenced input n other e =
     ∙ sym (ap (upTo input) e)
 
 -- a name is known by its small letters
-named-alike : (a b : List ℕ) → map lower a ≡ map lower b → nameOf a ≡ nameOf b
+pub named-alike : (a b : List ℕ) → map lower a ≡ map lower b → nameOf a ≡ nameOf b
 unfolding nameOf sameLetters
 named-alike a b e = rw e
 

@@ -5,3 +5,5 @@ pub mod RangeForms
 pub mod ListForms
 pub mod NeedForms
 pub mod Wholes
+pub mod Lowers
+pub mod Cases

@@ -4,7 +4,7 @@ ghost use lib.ListN.{take};
 ghost use Rattle.packet.specs.declared.Fault.the-variants.{Text};
 ghost use Rattle.packet.specs.Faults.{numberOf, placeOf};
 ghost use Rattle.packet.specs.Packets.{packetOf, seen};
-ghost use Rattle.packet.specs.Laws.{Exact, Passed};
+ghost use Rattle.packet.specs.Laws.{Exact, Passed, Caseless};
 use crate::judging::judge;
 use head::read_head;
 
@@ -93,6 +93,7 @@ pub fn read_packet(input: &[u8]) -> Result<Packet<'_>, Fault>
     ensures value { λ r. ⌜ seen r ≡ packetOf (now (input .entry)) ⌝ }
     ensures exact { λ r. ⌜ Exact (now (input .entry)) (seen r) ⌝ }
     ensures passed { λ r. ⌜ Passed (now (input .entry)) (seen r) ⌝ }
+    ensures caseless { λ r. ⌜ Caseless (now (input .entry)) (seen r) ⌝ }
 {
     parse(input)
 }

@@ -1,6 +1,7 @@
 use mathlib.Core.Path.{_≡_, sym, subst}
-use Rattle.packet.specs.Laws.{Exact, Passed}
+use Rattle.packet.specs.Laws.{Exact, Passed, Caseless}
 use Rattle.packet.proofs.Wholes.{exact, passed}
+use Rattle.packet.proofs.Cases.{caseless}
 use Rattle.packet.proofs.read_packet.Needs as need
 
 pub returns : need.returns
@@ -10,5 +11,6 @@ returns c =
     record {
       value = c .parse .ensures;
       exact = subst (Exact input) same (exact input);
-      passed = subst (Passed input) same (passed input)
+      passed = subst (Passed input) same (passed input);
+      caseless = subst (Caseless input) same (caseless input)
     }
