@@ -23,7 +23,7 @@ use Rattle.outcome.specs.declared.Status.{Status}
 use Rattle.outcome.specs.declared.Status.the-variants as status
 use Rattle.reply.specs.Visible.{most}
 use Rattle.ack.specs.Told.{Ack, KnownReceived, statusOf, Tellable}
-use Rattle.ack.specs.Text.{ackLines, ackText, addressLines, ended, bytesOf, errorLines, idLines, leastPage, onlyIf, rangeLines, statusLine}
+use Rattle.ack.specs.Text.{ackLines, ackText, addressLines, ended, ackBytes, errorLines, idLines, leastPage, onlyIf, rangeLines, statusLine}
 use Rattle.ack.proofs.Lines.{ended-append}
 
 status-long : (s : Status) → length (statusLine s) ≤ 44
@@ -90,6 +90,6 @@ text-long a t =
 pub whole-page : {p q b : List ℕ} {end : ℕ} → Puts p 0 b q end → length b ≤ leastPage → leastPage ≤ length p → (end ≡ length b) × (q ≡ b ++ drop (length b) p)
 whole-page f h k = (puts-long f (omega arith), puts-whole f (omega arith))
 
-pub bytes-long : (a : Option Ack) → Cases a (Unit {0}) Tellable → length (bytesOf a) ≤ leastPage
+pub bytes-long : (a : Option Ack) → Cases a (Unit {0}) Tellable → length (ackBytes a) ≤ leastPage
 bytes-long None h = lit≤ tt
 bytes-long (Some a) h = text-long a h

@@ -63,9 +63,9 @@ ackLines a =
 unfoldable pub ackText : Ack → List ℕ
 ackText a = ended (ackLines a) ++ codes "\r\n"
 
-abbrev pub bytesOf : Option Ack → List ℕ
-bytesOf None = []
-bytesOf (Some a) = ackText a
+abbrev pub ackBytes : Option Ack → List ℕ
+ackBytes None = []
+ackBytes (Some a) = ackText a
 
 abbrev pub leastPage : ℕ
 leastPage = 1024

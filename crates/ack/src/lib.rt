@@ -9,7 +9,7 @@ ghost use Rattle.std.specs.Vec.{made};
 ghost use Rattle.std.specs.declared.result.Result.the-variants.{Ok, Err};
 ghost use Rattle.ack.specs.Back.{Sound};
 ghost use Rattle.ack.specs.Told.{accepted, ackOf, handedOver, isAway, refusedAs, Tellable};
-ghost use Rattle.ack.specs.Text.{ackText, bytesOf, leastPage};
+ghost use Rattle.ack.specs.Text.{ackText, ackBytes, leastPage};
 use outcome::Answer;
 use outcome::Outcome;
 use outcome::Refusal;
@@ -45,7 +45,7 @@ fn is_handed_over(found: &Option<Progress>) -> bool
 }
 
 fn put_accepted(page: &mut [u8], call: &Call) -> usize
-    ensures puts { λ r. ⌜ Puts (now (page .entry)) 0 (bytesOf (accepted (now (call .entry)))) (now (page .exit)) r ⌝ }
+    ensures puts { λ r. ⌜ Puts (now (page .entry)) 0 (ackBytes (accepted (now (call .entry)))) (now (page .exit)) r ⌝ }
     ensures known { λ _. ⌜ Cases (accepted (now (call .entry))) (Unit {0}) Tellable ⌝ }
 {
     match call {
@@ -84,9 +84,9 @@ fn put_refused(page: &mut [u8], refusal: Refusal, call: &Call) -> usize
 // acknowledged. A page that is too short is refused and not changed.
 pub fn acknowledge(page: &mut [u8], outcome: Outcome, call: &Call) -> Result<usize, Outcome>
     ensures short { λ r. ⌜ (length (now (page .entry)) < leastPage → (r ≡ Err Outcome.ShortPage) × (now (page .exit) ≡ now (page .entry))) ⌝ }
-    ensures length { λ r. ⌜ (leastPage ≤ length (now (page .entry)) → r ≡ Ok (length (bytesOf (ackOf outcome (now (call .entry)))))) ⌝ }
+    ensures length { λ r. ⌜ (leastPage ≤ length (now (page .entry)) → r ≡ Ok (length (ackBytes (ackOf outcome (now (call .entry)))))) ⌝ }
     ensures within { λ r. ⌜ made r (λ n. n ≤ length (now (page .entry))) ⌝ }
-    ensures page { λ r. ⌜ (leastPage ≤ length (now (page .entry)) → now (page .exit) ≡ bytesOf (ackOf outcome (now (call .entry))) ++ drop (length (bytesOf (ackOf outcome (now (call .entry))))) (now (page .entry))) ⌝ }
+    ensures page { λ r. ⌜ (leastPage ≤ length (now (page .entry)) → now (page .exit) ≡ ackBytes (ackOf outcome (now (call .entry))) ++ drop (length (ackBytes (ackOf outcome (now (call .entry))))) (now (page .entry))) ⌝ }
     ensures laws { λ _. ⌜ (leastPage ≤ length (now (page .entry)) → Cases (ackOf outcome (now (call .entry))) (Unit {0}) Sound) ⌝ }
 {
     if page.len() < LEAST_PAGE {

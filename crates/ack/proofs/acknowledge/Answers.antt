@@ -8,7 +8,7 @@ use Rattle.std.specs.declared.option.Option.the-variants.{None, Some}
 use Rattle.std.specs.declared.result.Result.the-variants.{Ok}
 use Rattle.ack.specs.Back.{Sound}
 use Rattle.ack.specs.Told.{accepted, ackOf, answered, refusedAs}
-use Rattle.ack.specs.Text.{bytesOf, leastPage}
+use Rattle.ack.specs.Text.{ackBytes, leastPage}
 use Rattle.ack.proofs.Back.{all-sound, sound}
 use Rattle.ack.proofs.Long.{bytes-long, text-long, whole-page}
 use Rattle.ack.proofs.acknowledge.Needs as need
@@ -28,9 +28,9 @@ returns-in-Silent c =
     let is : None ≡ ackOf (c .args .outcome) call = sym (ap (λ a. answered a call) (ap (λ r. r .answer) (sym (c .report .ensures .value)) ∙ c .in-Silent .is)) in
     record {
       short = λ h. absurd (omega arith);
-      length = λ h. ap (λ a. Ok (length (bytesOf a))) is;
+      length = λ h. ap (λ a. Ok (length (ackBytes a))) is;
       within = omega arith;
-      page = λ h. ap (λ a. bytesOf a ++ drop (length (bytesOf a)) (c .args .page .now)) is;
+      page = λ h. ap (λ a. ackBytes a ++ drop (length (ackBytes a)) (c .args .page .now)) is;
       laws = λ h. subst (λ a. Cases a (Unit {0}) Sound) is tt;
     }
 
@@ -41,9 +41,9 @@ returns-in-Accepted c =
     let long = bytes-long (accepted call) (c .put-accepted .ensures .known) in
     record {
       short = λ h. absurd (omega arith);
-      length = λ h. ap Ok (whole-page (c .put-accepted .ensures .puts) long h .0 ∙ ap (λ a. length (bytesOf a)) is);
+      length = λ h. ap Ok (whole-page (c .put-accepted .ensures .puts) long h .0 ∙ ap (λ a. length (ackBytes a)) is);
       within = omega (arith, whole-page (c .put-accepted .ensures .puts) long (c .if-page-lt-LEAST-PAGE .left) .0, long, c .if-page-lt-LEAST-PAGE .left);
-      page = λ h. whole-page (c .put-accepted .ensures .puts) long h .1 ∙ ap (λ a. bytesOf a ++ drop (length (bytesOf a)) (c .args .page .now)) is;
+      page = λ h. whole-page (c .put-accepted .ensures .puts) long h .1 ∙ ap (λ a. ackBytes a ++ drop (length (ackBytes a)) (c .args .page .now)) is;
       laws = λ h. subst (λ a. Cases a (Unit {0}) Sound) is (all-sound (accepted call) (c .put-accepted .ensures .known));
     }
 
@@ -55,8 +55,8 @@ returns-in-Refused c =
     let long = text-long ack (c .put-refused .ensures .known) in
     record {
       short = λ h. absurd (omega arith);
-      length = λ h. ap Ok (whole-page (c .put-refused .ensures .puts) long h .0 ∙ ap (λ a. length (bytesOf a)) is);
+      length = λ h. ap Ok (whole-page (c .put-refused .ensures .puts) long h .0 ∙ ap (λ a. length (ackBytes a)) is);
       within = omega (arith, whole-page (c .put-refused .ensures .puts) long (c .if-page-lt-LEAST-PAGE .left) .0, long, c .if-page-lt-LEAST-PAGE .left);
-      page = λ h. whole-page (c .put-refused .ensures .puts) long h .1 ∙ ap (λ a. bytesOf a ++ drop (length (bytesOf a)) (c .args .page .now)) is;
+      page = λ h. whole-page (c .put-refused .ensures .puts) long h .1 ∙ ap (λ a. ackBytes a ++ drop (length (ackBytes a)) (c .args .page .now)) is;
       laws = λ h. subst (λ a. Cases a (Unit {0}) Sound) is (sound ack (c .put-refused .ensures .known));
     }
