@@ -6,7 +6,7 @@ use mathlib.Core.List.{List, [], _∷_, _++_, append-assoc}
 use Prim.Native.Nat.{ℕ, _+_, _^_, _≤_, _<_}
 use native.Mathlib.Omega.{arith}
 use lib.Chars.{codes}
-use lib.Dec.{eqb, leb, lit<}
+use lib.Dec.{eqb, lit<, lit≤}
 use lib.ListN.{length, take}
 use Rattle.std.proofs.shelf.Decimals.{decimal-reads}
 use Rattle.std.proofs.shelf.Tests.{and-from, and-parts, cases-bool, cond-true, cond-false, false≢true, not-true}
@@ -53,19 +53,18 @@ all-append : (xs ys : List (List ℕ)) → allClean xs ≡ true → allClean ys 
 all-append [] ys h k = k
 all-append (x ∷ xs) ys h k = and-from _ _ (and-parts _ _ h .0) (all-append xs ys (and-parts _ _ h .1) k)
 
-digit-clean : (c : ℕ) → digitValue c < 16 → cleanByte c ≡ true
+digit-clean : (c : ℕ) → digitValue c < 36 → cleanByte c ≡ true
 digit-clean c h = grind (arith, tells)
 
 visible-clean : (c : ℕ) → isVisible c ≡ true → cleanByte c ≡ true
 visible-clean c h = grind (arith, tells)
 
-clean-hex : (ds : List ℕ) → Digits 16 ds → clean ds ≡ true
-clean-hex [] h = refl
-clean-hex (d ∷ ds) h = and-from _ _ (digit-clean d (h .0)) (clean-hex ds (h .1))
+clean-digits : (radix : ℕ) → radix ≤ 36 → (ds : List ℕ) → Digits radix ds → clean ds ≡ true
+clean-digits radix k [] h = refl
+clean-digits radix k (d ∷ ds) h = and-from _ _ (digit-clean d (omega (arith, h .0))) (clean-digits radix k ds (h .1))
 
-clean-ten : (ds : List ℕ) → Digits 10 ds → clean ds ≡ true
-clean-ten [] h = refl
-clean-ten (d ∷ ds) h = and-from _ _ (digit-clean d (omega (arith, h .0))) (clean-ten ds (h .1))
+clean-hexes : (k n : ℕ) → clean (hexes k n) ≡ true
+clean-hexes k n = clean-digits 16 (lit≤ tt) (hexes k n) (digits-hexes k n)
 
 clean-visible : (s : List ℕ) → areVisible s ≡ true → clean s ≡ true
 clean-visible [] h = refl
@@ -82,7 +81,7 @@ clean-filled (p ∷ ps) (d ∷ ds) h k =
 
 clean-id : (id : SessionId) → clean (idText id) ≡ true
 unfolding idText
-clean-id id = clean-append (filled siteShape (hexes 16 (id .site))) (filled serialShape (hexes 16 (id .serial))) (clean-filled siteShape (hexes 16 (id .site)) refl (clean-hex _ (digits-hexes 16 (id .site)))) (clean-filled serialShape (hexes 16 (id .serial)) refl (clean-hex _ (digits-hexes 16 (id .serial))))
+clean-id id = clean-append (filled siteShape (hexes 16 (id .site))) (filled serialShape (hexes 16 (id .serial))) (clean-filled siteShape (hexes 16 (id .site)) refl (clean-hexes 16 (id .site))) (clean-filled serialShape (hexes 16 (id .serial)) refl (clean-hexes 16 (id .serial)))
 
 clean-status : (s : Status) → clean (statusLine s) ≡ true
 unfolding digits
@@ -104,7 +103,7 @@ clean-ids (Some id) = and-from _ _ (clean-append (codes "BITS-Session-Id: ") (id
 
 clean-range : (x : Option ℕ) → KnownReceived x → allClean (rangeLines x) ≡ true
 clean-range None h = refl
-clean-range (Some n) h = and-from _ _ (clean-append (codes "BITS-Received-Content-Range: ") (decimal n) refl (clean-ten (decimal n) (decimal-reads n h .0 .1))) refl
+clean-range (Some n) h = and-from _ _ (clean-append (codes "BITS-Received-Content-Range: ") (decimal n) refl (clean-digits 10 (lit≤ tt) (decimal n) (decimal-reads n h .0 .1))) refl
 
 clean-address : (s : List ℕ) → areVisible s ≡ true → allClean (addressLines s) ≡ true
 clean-address [] h = refl
@@ -113,8 +112,8 @@ clean-address (b ∷ s) h = and-from _ _ (clean-append (codes "BITS-Reply-URL: "
 clean-errors : (x : Option Refusal) → allClean (errorLines x) ≡ true
 clean-errors None = refl
 clean-errors (Some r) =
-    and-from _ _ (clean-append (codes "BITS-Error: 0x") (hexes 8 (r .code)) refl (clean-hex _ (digits-hexes 8 (r .code))))
-    (and-from _ _ (clean-append (codes "BITS-Error-Context: 0x") (hexes 1 (contextOf (r .context))) refl (clean-hex _ (digits-hexes 1 (contextOf (r .context))))) refl)
+    and-from _ _ (clean-append (codes "BITS-Error: 0x") (hexes 8 (r .code)) refl (clean-hexes 8 (r .code)))
+    (and-from _ _ (clean-append (codes "BITS-Error-Context: 0x") (hexes 1 (contextOf (r .context))) refl (clean-hexes 1 (contextOf (r .context)))) refl)
 
 clean-lines : (a : Ack) → Tellable a → allClean (ackLines a) ≡ true
 unfolding ackLines

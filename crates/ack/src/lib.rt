@@ -72,11 +72,9 @@ fn put_refused(page: &mut [u8], refusal: Refusal, call: &Call) -> usize
     match call {
         Call::Fragment(_, found) => put_ack(page, Some(refusal), false, None, found),
         Call::Answer(_, found) => put_ack(page, Some(refusal), false, None, found),
-        Call::Unread => put_ack(page, Some(refusal), false, None, &None),
-        Call::Ping => put_ack(page, Some(refusal), false, None, &None),
-        Call::Create(_) => put_ack(page, Some(refusal), false, None, &None),
-        Call::Close(_) => put_ack(page, Some(refusal), false, None, &None),
-        Call::Cancel(_) => put_ack(page, Some(refusal), false, None, &None),
+        Call::Unread | Call::Ping | Call::Create(_) | Call::Close(_) | Call::Cancel(_) => {
+            put_ack(page, Some(refusal), false, None, &None)
+        }
     }
 }
 
