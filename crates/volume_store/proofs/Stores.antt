@@ -61,12 +61,12 @@ pub law-fits : (s : VolumeStore) (k : ℕ) → length (meaningOf s .held k) + me
 law-fits s k =
     ⊎-elim
     (λ h. let a : length (meaningOf s .held k) ≡ lengthOf (s .lengths) k = ap length (held-in s k h) ∙ length-slot s k h in
-        let b = room-in s k h in
-        let w : lengthOf (s .lengths) k ≤ s .capacity = s .within k in
-        omega (arith, s .fits, s .region .small))
+    let b = room-in s k h in
+    let w : lengthOf (s .lengths) k ≤ s .capacity = s .within k in
+    omega (arith, s .fits, s .region .small))
     (λ h. let a : length (meaningOf s .held k) ≡ 0 = ap length (held-out s k h) in
-        let b : meaningOf s .room k ≡ 0 = room-out s k h in
-        omega arith)
+    let b : meaningOf s .room k ≡ 0 = room-out s k h in
+    omega arith)
     (cases-lt k 16)
 
 abbrev pub restOf : VolumeStore → ℕ → List ℕ → Bool
@@ -77,11 +77,11 @@ law-unfilled s k n e =
     let full : Bool = ltb k 16 && ltb 0 (lengthOf (s .lengths) k) in
     and-right (nameable n) (full && restOf s k n)
     (and-left full (restOf s k n)
-        (⊎-elim
-        (λ h. let z : lengthOf (s .lengths) k ≡ 0 = sym (length-slot s k h) ∙ ap length (sym (held-in s k h) ∙ e) in
-            and-right (ltb k 16) (ltb 0 (lengthOf (s .lengths) k)) (le-ltb 0 (lengthOf (s .lengths) k) (omega arith)))
-        (λ h. and-left (ltb k 16) (ltb 0 (lengthOf (s .lengths) k)) (le-ltb k 16 h))
-        (cases-lt k 16)))
+    (⊎-elim
+    (λ h. let z : lengthOf (s .lengths) k ≡ 0 = sym (length-slot s k h) ∙ ap length (sym (held-in s k h) ∙ e) in
+    and-right (ltb k 16) (ltb 0 (lengthOf (s .lengths) k)) (le-ltb 0 (lengthOf (s .lengths) k) (omega arith)))
+    (λ h. and-left (ltb k 16) (ltb 0 (lengthOf (s .lengths) k)) (le-ltb k 16 h))
+    (cases-lt k 16)))
 
 pub law-unnamed : (s : VolumeStore) (k : ℕ) (n : List ℕ) → nameable n ≡ false → fitsUnder s k n ≡ false
 law-unnamed s k n e = and-left (nameable n) ((ltb k 16 && ltb 0 (lengthOf (s .lengths) k)) && restOf s k n) e
@@ -96,7 +96,8 @@ can-parts s k n e =
       named = a .0;
       slot = ltb-true k 16 (c .0);
       some = ltb-true 0 (lengthOf (s .lengths) k) (c .1);
-      room = leb-true (16 * s .capacity + s .used + (lengthOf (s .lengths) k + length n + 16)) (vec-len (s .region)) (b .1) }
+      room = leb-true (16 * s .capacity + s .used + (lengthOf (s .lengths) k + length n + 16)) (vec-len (s .region)) (b .1);
+    }
 
 -- the bundles are those of any reading
 pub reading-is : (s : List ℕ) (h : ∥ Holds s ∥₁) (bs : List Bundle) → Volume s bs → reading s h .0 ≡ bs
@@ -136,9 +137,9 @@ module _ (s t : VolumeStore) (k : ℕ) (xs : List ℕ) (a : Adding s k xs t) (h 
   kept j hj ne =
       slot-is s t (wrote (items s) xs at fit) j (lengthOf (s .lengths) j) (a .capacity) (a .region) (len-other j ne)
       ∙ ⊎-elim
-        (λ lt. before-it (items s) xs at fit (j * s .capacity) (lengthOf (s .lengths) j) (omega (arith, area j k (s .capacity) lt, s .within j)))
-        (λ ge. ap (take (lengthOf (s .lengths) j)) (behind-it (items s) xs at fit (j * s .capacity) (omega (arith, area k j (s .capacity) (omega arith), small))))
-        (cases-lt j k)
+      (λ lt. before-it (items s) xs at fit (j * s .capacity) (lengthOf (s .lengths) j) (omega (arith, area j k (s .capacity) lt, s .within j)))
+      (λ ge. ap (take (lengthOf (s .lengths) j)) (behind-it (items s) xs at fit (j * s .capacity) (omega (arith, area k j (s .capacity) (omega arith), small))))
+      (cases-lt j k)
 
   same-volume : volumeOf t ≡ volumeOf s
   same-volume =
@@ -157,7 +158,8 @@ module _ (s t : VolumeStore) (k : ℕ) (xs : List ℕ) (a : Adding s k xs t) (h 
         (λ hj. omega (arith, room-in t j hj, room-in s j hj, len-other j ne, a .capacity))
         (λ hj. omega (arith, room-out t j hj, room-out s j hj))
         (cases-lt j 16);
-    names = λ n. ap (λ (bs : List Bundle). entityOf (newest n bs)) (bundles-same s t same-volume) }
+    names = λ n. ap (λ (bs : List Bundle). entityOf (newest n bs)) (bundles-same s t same-volume);
+  }
 
 pub added-none : (s : VolumeStore) (k : ℕ) → Added (meaningOf s) k [] (meaningOf s)
 added-none s k = record {
@@ -165,7 +167,8 @@ added-none s k = record {
   falls = add-zero (meaningOf s .room k);
   others = λ j ne. refl;
   rooms = λ j ne. omega arith;
-  names = λ n. refl }
+  names = λ n. refl;
+}
 
 pub adding-none : (s : VolumeStore) (k : ℕ) → Adding s k [] s
 adding-none s k =
@@ -174,7 +177,8 @@ adding-none s k =
       region = sym (ap (λ (x : ℕ). take at (items s) ++ drop x (items s)) (add-zero at) ∙ take-append-drop at (items s));
       lengths = sym (ap (set (s .lengths) k) (add-zero (lengthOf (s .lengths) k)) ∙ set-getD (s .lengths) k 0);
       capacity = refl;
-      used = refl }
+      used = refl;
+    }
 
 module _ (s t : VolumeStore) (k : ℕ) (a : Clearing s k t) (h : k < 16) where
   cleared-len : lengthOf (t .lengths) k ≡ 0
@@ -199,7 +203,8 @@ module _ (s t : VolumeStore) (k : ℕ) (a : Clearing s k t) (h : k < 16) where
         (λ hj. omega (arith, room-in t j hj, room-in s j hj, cleared-other j ne, a .capacity))
         (λ hj. omega (arith, room-out t j hj, room-out s j hj))
         (cases-lt j 16);
-    names = λ n. ap (λ (bs : List Bundle). entityOf (newest n bs)) (bundles-same s t cleared-volume) }
+    names = λ n. ap (λ (bs : List Bundle). entityOf (newest n bs)) (bundles-same s t cleared-volume);
+  }
 
 pub cleared-none : (s : VolumeStore) (k : ℕ) → 16 ≤ k → Cleared (meaningOf s) k (meaningOf s)
 cleared-none s k h = record {
@@ -207,7 +212,8 @@ cleared-none s k h = record {
   rises = let l : length (meaningOf s .held k) ≡ 0 = ap length (held-out s k h) in omega arith;
   others = λ j ne. refl;
   rooms = λ j ne. omega arith;
-  names = λ n. refl }
+  names = λ n. refl;
+}
 
 both : {A : Type 0} (b : Bool) (x : A) → cond b x x ≡ x
 both true x = refl
@@ -219,10 +225,10 @@ newest-push n [] b = refl
 newest-push n (x ∷ bs) b =
     ⊎-elim
     (λ t. let e : newest n (bs ++ (b ∷ [])) ≡ Some b = newest-push n bs b ∙ cond-true (sameBytes (b .name) n) (Some b) (newest n bs) t in
-        ap (λ (o : Option Bundle). cond (sameBytes (x .name) n) (later o x) o) e
-        ∙ (both (sameBytes (x .name) n) (Some b) ∙ sym (cond-true (sameBytes (b .name) n) (Some b) (newest n (x ∷ bs)) t)))
+    ap (λ (o : Option Bundle). cond (sameBytes (x .name) n) (later o x) o) e
+    ∙ (both (sameBytes (x .name) n) (Some b) ∙ sym (cond-true (sameBytes (b .name) n) (Some b) (newest n (x ∷ bs)) t)))
     (λ f. let e : newest n (bs ++ (b ∷ [])) ≡ newest n bs = newest-push n bs b ∙ cond-false (sameBytes (b .name) n) (Some b) (newest n bs) f in
-        ap (λ (o : Option Bundle). cond (sameBytes (x .name) n) (later o x) o) e ∙ sym (cond-false (sameBytes (b .name) n) (Some b) (newest n (x ∷ bs)) f))
+    ap (λ (o : Option Bundle). cond (sameBytes (x .name) n) (later o x) o) e ∙ sym (cond-false (sameBytes (b .name) n) (Some b) (newest n (x ∷ bs)) f))
     (cases-bool (sameBytes (b .name) n))
 
 module _ (s t : VolumeStore) (k : ℕ) (n : List ℕ) (a : Publishing s k n t) (c : Can s k n) where
@@ -259,7 +265,8 @@ module _ (s t : VolumeStore) (k : ℕ) (n : List ℕ) (a : Publishing s k n t) (
     names = λ m ne.
         ap (λ (bs : List Bundle). entityOf (newest m bs)) (a .read)
         ∙ ap entityOf (newest-push m (bundles s) bundle
-        ∙ cond-false (sameBytes n m) (Some bundle) (newest m (bundles s)) (⊎-elim (λ t. absurd (ne (sym (sameBytes-decides n m .0 t)))) (λ f. f) (cases-bool (sameBytes n m)))) }
+        ∙ cond-false (sameBytes n m) (Some bundle) (newest m (bundles s)) (⊎-elim (λ t. absurd (ne (sym (sameBytes-decides n m .0 t)))) (λ f. f) (cases-bool (sameBytes n m))));
+  }
 
 -- what the append leaves, as an account
 pub publishing-is : (s t : VolumeStore) (k : ℕ) (n l : List ℕ) → items t ≡ l → t .lengths ≡ set (s .lengths) k 0 → t .capacity ≡ s .capacity
@@ -270,8 +277,9 @@ publishing-is s t k n l r e c p = record {
   capacity = c;
   read = reading-is (volumeOf t) (t .volume) (bundles s ++ (record { entity = slotBytes s k; name = n } ∷ []))
       (subst (λ (x : List ℕ). Volume x (bundles s ++ (record { entity = slotBytes s k; name = n } ∷ [])))
-          (sym (ap (λ (m : ℕ). volumeBytes (items t) m (t .used)) c ∙ ap (λ (x : List ℕ). volumeBytes x (s .capacity) (t .used)) r))
-          (p .volume (bundles s) (reading (volumeOf s) (s .volume) .1))) }
+      (sym (ap (λ (m : ℕ). volumeBytes (items t) m (t .used)) c ∙ ap (λ (x : List ℕ). volumeBytes x (s .capacity) (t .used)) r))
+      (p .volume (bundles s) (reading (volumeOf s) (s .volume) .1)));
+}
 
 -- a bundle that fits is not refused
 pub not-refused : (s : VolumeStore) (k : ℕ) (n : List ℕ) (size : ℕ) → Can s k n → size ≡ vec-len (s .region)

@@ -26,8 +26,8 @@ module _ (l xs : List ℕ) (at : ℕ) (fit : at + length xs ≤ length l) where
       let n : ℕ = at + length xs in
       let q : n + (a - n) ≡ a = omega arith in
       let end : drop n wrote ≡ drop n l =
-          ap (drop n) (sym (append-assoc (take at l) xs (drop n l)))
-          ∙ drop-at (take at l ++ xs) (drop n l) n (length-append (take at l) xs ∙ ap (λ (x : ℕ). x + length xs) front) in
+      ap (drop n) (sym (append-assoc (take at l) xs (drop n l)))
+      ∙ drop-at (take at l ++ xs) (drop n l) n (length-append (take at l) xs ∙ ap (λ (x : ℕ). x + length xs) front) in
       ap (λ (x : ℕ). drop x wrote) (sym q) ∙ (sym (drop-drop (a - n) n wrote) ∙ (ap (drop (a - n)) end ∙ (drop-drop (a - n) n l ∙ ap (λ (x : ℕ). drop x l) q)))
 
   -- a stretch that ends where the bytes were written grows by them

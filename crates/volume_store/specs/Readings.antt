@@ -19,7 +19,8 @@ proper-prop b p q = λ i. record {
   some = le-prop (p .some) (q .some) i;
   named = le-prop (p .named) (q .named) i;
   short = le-prop (p .short) (q .short) i;
-  fits = le-prop (p .fits) (q .fits) i }
+  fits = le-prop (p .fits) (q .fits) i;
+}
 
 all-prop : (bs : List Bundle) → IsProp (All Proper bs)
 all-prop [] = λ p q. refl

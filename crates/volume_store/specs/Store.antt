@@ -56,7 +56,8 @@ meaningOf s = record {
   held = λ k. cond (ltb k 16) (slotBytes s k) [];
   room = λ k. cond (ltb k 16) (s .capacity - lengthOf (s .lengths) k) 0;
   catalog = λ n. entityOf (newest n (bundles s));
-  publishable = λ k n. fitsUnder s k n }
+  publishable = λ k n. fitsUnder s k n;
+}
 
 -- bytes were added: they stand behind the slot's own, and every other byte of the region is as it was
 pub record Adding (s : VolumeStore) (k : ℕ) (xs : List ℕ) (t : VolumeStore) : Type 0 where

@@ -89,7 +89,12 @@ impl VolumeStore {
         if check(&region[base..base + used]).is_err() {
             return Err(BadRegion { region });
         }
-        Ok(VolumeStore { region, capacity, lengths: [0; 16], used })
+        Ok(VolumeStore {
+            region,
+            capacity,
+            lengths: [0; 16],
+            used,
+        })
     }
 
     fn volume(&self) -> &[u8]
@@ -137,8 +142,14 @@ impl VolumeStore {
         requires { ⌜ Can (now self) slot (now name) ⌝ }
         ensures { λ _. ⌜ Publishing (now (self .entry)) slot (now (name .entry)) (now (self .exit)) ⌝ }
     {
-        let volume = Span { start: SLOTS * self.capacity, len: self.used };
-        let entity = Span { start: slot * self.capacity, len: self.lengths[slot] };
+        let volume = Span {
+            start: SLOTS * self.capacity,
+            len: self.used,
+        };
+        let entity = Span {
+            start: slot * self.capacity,
+            len: self.lengths[slot],
+        };
         match append_within(&mut self.region, volume, entity, name) {
             Ok(end) => {
                 self.used = end;
@@ -159,7 +170,11 @@ pub impl Store for VolumeStore as Bundled {
     }
 
     fn room(&self, slot: usize) -> usize {
-        if slot < SLOTS { self.capacity - self.lengths[slot] } else { 0 }
+        if slot < SLOTS {
+            self.capacity - self.lengths[slot]
+        } else {
+            0
+        }
     }
 
     fn published_length(&self, name: &[u8]) -> Option<usize> {

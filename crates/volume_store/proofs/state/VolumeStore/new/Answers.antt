@@ -17,7 +17,7 @@ ghost-result c =
     let fits : 16 * c .args .capacity + c .args .used ≤ c .args .region .len = omega (arith, leb-true (16 * c .args .capacity + c .args .used) (c .len .result) (both .1)) in
     let base : ℕ = 16 * c .args .capacity in
     let part : take (base + c .args .used - base) (drop base (c .deref .result .now)) ≡ volumeBytes (c .args .region .items) (c .args .capacity) (c .args .used) =
-        ap (λ (n : ℕ). take n (drop base (c .deref .result .now))) (omega arith) ∙ ap (λ (l : List ℕ). take (c .args .used) (drop base l)) (c .deref .ensures .value) in
+    ap (λ (n : ℕ). take n (drop base (c .deref .result .now))) (omega arith) ∙ ap (λ (l : List ℕ). take (c .args .used) (drop base l)) (c .deref .ensures .value) in
     let holds : Holds (take (base + c .args .used - base) (drop base (c .deref .result .now))) =
-        counted-holds (take (base + c .args .used - base) (drop base (c .deref .result .now))) (c .check .result) (c .if-is-err .ensures tt .value) (c .check .ensures .exact) in
+    counted-holds (take (base + c .args .used - base) (drop base (c .deref .result .now))) (c .check .result) (c .if-is-err .ensures tt .value) (c .check .ensures .exact) in
     (refl, (within-new (c .args .capacity), (fits, (∣ subst Holds part holds ∣₁, tt))))

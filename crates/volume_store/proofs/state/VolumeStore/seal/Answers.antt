@@ -32,17 +32,22 @@ module _ (c : In-Ok) where
 
   holds : ∥ Holds (volumeBytes (refilled (s .region) (c .append-within .last .region) .items) (s .capacity) (c .in-Ok .end)) ∥₁
   holds =
-      ∣ (bundles s ++ (bundle ∷ []),
-          subst (λ (l : List ℕ). Volume (volumeBytes l (s .capacity) (c .in-Ok .end)) (bundles s ++ (bundle ∷ []))) (sym held-by)
-          (appended .volume (bundles s) (reading (volumeOf s) (s .volume) .1))) ∣₁
+      ∣ (
+        bundles s ++ (bundle ∷ []),
+        subst (λ (l : List ℕ). Volume (volumeBytes l (s .capacity) (c .in-Ok .end)) (bundles s ++ (bundle ∷ []))) (sym held-by)
+            (appended .volume (bundles s) (reading (volumeOf s) (s .volume) .1)),
+      ) ∣₁
 
 pub ghost-self : need.ghost-self
 ghost-self c =
     let s = c .args .self .now in
-    let o = need.at·ghost-self c .In-Ok in
-    (length-set (s .lengths) (c .args .slot) 0 ∙ s .held,
-        (within-set s (c .args .slot) 0 (c .pre .slot) (omega arith),
-            (omega (arith, appended o .fits, length-items s), (holds o, tt))))
+    let o = need.at·ghost-self c .In-Ok in (
+      length-set (s .lengths) (c .args .slot) 0 ∙ s .held,
+      (
+        within-set s (c .args .slot) 0 (c .pre .slot) (omega arith),
+        (omega (arith, appended o .fits, length-items s), (holds o, tt)),
+      ),
+    )
 
 pub unreachable-requires : need.unreachable-requires
 unreachable-requires c κs =

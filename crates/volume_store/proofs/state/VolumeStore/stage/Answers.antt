@@ -50,10 +50,13 @@ module _ (c : After-put) where
 pub ghost-self : need.ghost-self
 ghost-self c =
     let s = c .args .self .now in
-    let v : ℕ = lengthOf (s .lengths) (c .args .slot) + length (c .args .bytes .now) in
-    (length-set (s .lengths) (c .args .slot) v ∙ s .held,
-        (within-set s (c .args .slot) v (c .pre .slot) (c .pre .room),
-            (s .fits, (subst (λ (x : List ℕ). ∥ Holds x ∥₁) (sym (volume-kept (need.at·ghost-self c .After-put))) (s .volume), tt))))
+    let v : ℕ = lengthOf (s .lengths) (c .args .slot) + length (c .args .bytes .now) in (
+      length-set (s .lengths) (c .args .slot) v ∙ s .held,
+      (
+        within-set s (c .args .slot) v (c .pre .slot) (c .pre .room),
+        (s .fits, (subst (λ (x : List ℕ). ∥ Holds x ∥₁) (sym (volume-kept (need.at·ghost-self c .After-put))) (s .volume), tt)),
+      ),
+    )
 
 pub returns : need.returns
 returns c = record { region = held-by (need.at·returns c .After-put); lengths = refl; capacity = refl; used = refl }

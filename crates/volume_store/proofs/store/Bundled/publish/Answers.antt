@@ -14,4 +14,5 @@ returns c =
       verdict = sym e;
       published = published s (c .seal .last .self) (c .args .slot) n (c .seal .ensures) (can-parts s (c .args .slot) n e);
       account = c .seal .ensures;
-      refused = tt }
+      refused = tt;
+    }
