@@ -13,7 +13,7 @@ pub struct Name {
 }
 
 impl Name {
-    pub fn new(name: &[u8]) -> Name
+    pub(crate) fn new(name: &[u8]) -> Name
         requires { ⌜ length (now name) ≤ 128 ⌝ }
         ensures name { λ r. ⌜ nameOf r ≡ now (name .entry) ⌝ }
         ensures len { λ r. ⌜ r .len ≡ length (now (name .entry)) ⌝ }
@@ -45,7 +45,7 @@ fn same(row: &Name, name: &[u8]) -> bool
 }
 
 // The first row with that name, or the number of rows.
-pub fn find(names: &[Name], name: &[u8]) -> usize
+pub(crate) fn find(names: &[Name], name: &[u8]) -> usize
     requires { ⌜ Short (now names) ⌝ }
     ensures row { λ r. ⌜ r ≡ position (now (names .entry)) (now (name .entry)) ⌝ }
     ensures within { λ r. ⌜ r ≤ length (now (names .entry)) ⌝ }

@@ -38,7 +38,7 @@ fn links() -> [u16; 1024]
 
 impl Table {
     // A table of so many pages, all of them free.
-    pub fn new(pages: usize) -> Table
+    pub(crate) fn new(pages: usize) -> Table
         requires { ⌜ 1 ≤ pages ⌝ ∗ ⌜ pages ≤ 1024 ⌝ }
         ensures pages { λ r. ⌜ r .pages ≡ pages ⌝ }
         ensures free { λ r. ⌜ countOf (r .chains) 48 ≡ pages ⌝ }
@@ -63,7 +63,7 @@ impl Table {
     }
 
     // The page at place `i` of an owner.
-    pub fn page_at(&self, owner: usize, i: usize) -> u16
+    pub(crate) fn page_at(&self, owner: usize, i: usize) -> u16
         requires { ⌜ owner < 49 ⌝ ∗ ⌜ i < countOf (now self .chains) owner ⌝ }
         ensures page { λ r. ⌜ r ≡ getD (pagesOf (now (self .entry) .next) (now (self .entry) .chains) owner) i 0 ⌝ }
         ensures within { λ r. ⌜ r < now (self .entry) .pages ⌝ }
@@ -138,7 +138,7 @@ impl Table {
     }
 
     // Moves the first `m` pages of `from` to the end of `to`.
-    pub fn splice(&mut self, to: usize, from: usize, m: usize)
+    pub(crate) fn splice(&mut self, to: usize, from: usize, m: usize)
         requires { ⌜ Movable (now self .chains) to from m ⌝ }
         ensures moved { λ _. ⌜ Moved (now (self .entry) .next) (now (self .entry) .chains) to from m (now (self .exit) .next) (now (self .exit) .chains) ⌝ }
         ensures same { λ _. ⌜ now (self .exit) .pages ≡ now (self .entry) .pages ⌝ }
@@ -155,7 +155,7 @@ impl Table {
     }
 
     // Has a slot or name that holds `len` bytes own the pages for `n` more, and gives the page where the first of them comes to lie.
-    pub fn reserve(&mut self, owner: usize, len: usize, n: usize) -> u16
+    pub(crate) fn reserve(&mut self, owner: usize, len: usize, n: usize) -> u16
         requires owner { ⌜ owner < 48 ⌝ }
         requires fewest { ⌜ Fewest (countOf (now self .chains) owner) len ⌝ }
         requires some { ⌜ 0 < n ⌝ }
