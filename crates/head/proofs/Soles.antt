@@ -28,16 +28,16 @@ absent-other n pre e other a i d l h = ⊎-elim
 
 only-other : (n : Name) (pre : List Entry) (e : Entry) (f : Found) → (nameOf (e .name) ≡ Some n → ⊥) → OnlyOne n pre f → OnlyOne n (pre ++ e ∷ []) f
 only-other n pre e f other o = record {
-    index = o .index;
-    inside = omega (arith, length-push pre e, o .inside);
-    named = λ d. ap (λ x. nameOf (x .name)) (getD-append-left pre (e ∷ []) d (o .index) (o .inside)) ∙ o .named d;
-    at-is = λ d. ap (λ x. x .at) (getD-append-left pre (e ∷ []) d (o .index) (o .inside)) ∙ o .at-is d;
-    value-is = λ d. ap (λ x. x .value) (getD-append-left pre (e ∷ []) d (o .index) (o .inside)) ∙ o .value-is d;
-    only = λ i d l h. ⊎-elim
+  index = o .index;
+  inside = omega (arith, length-push pre e, o .inside);
+  named = λ d. ap (λ x. nameOf (x .name)) (getD-append-left pre (e ∷ []) d (o .index) (o .inside)) ∙ o .named d;
+  at-is = λ d. ap (λ x. x .at) (getD-append-left pre (e ∷ []) d (o .index) (o .inside)) ∙ o .at-is d;
+  value-is = λ d. ap (λ x. x .value) (getD-append-left pre (e ∷ []) d (o .index) (o .inside)) ∙ o .value-is d;
+  only = λ i d l h. ⊎-elim
       (λ low. o .only i d low (ap (λ x. nameOf (x .name)) (sym (getD-append-left pre (e ∷ []) d i low)) ∙ h))
       (λ high. absurd (other (ap (λ x. nameOf (x .name)) (sym (getD-at pre e [] d i (omega (arith, length-push pre e)))) ∙ h)))
-      (cases-lt i (length pre))
-  }
+      (cases-lt i (length pre));
+}
 
 sole-other : (n : Name) (pre : List Entry) (e : Entry) (o : Option Found) → (nameOf (e .name) ≡ Some n → ⊥) → Sole n pre o → Sole n (pre ++ e ∷ []) o
 sole-other n pre e None other h = absent-other n pre e other h
@@ -45,16 +45,16 @@ sole-other n pre e (Some f) other h = only-other n pre e f other h
 
 only-new : (n : Name) (pre : List Entry) (e : Entry) → Absent n pre → nameOf (e .name) ≡ Some n → OnlyOne n (pre ++ e ∷ []) (record { at = e .at; value = e .value })
 only-new n pre e a is = record {
-    index = length pre;
-    inside = omega (arith, length-push pre e);
-    named = λ d. ap (λ x. nameOf (x .name)) (getD-at pre e [] d (length pre) refl) ∙ is;
-    at-is = λ d. ap (λ x. x .at) (getD-at pre e [] d (length pre) refl);
-    value-is = λ d. ap (λ x. x .value) (getD-at pre e [] d (length pre) refl);
-    only = λ i d l h. ⊎-elim
+  index = length pre;
+  inside = omega (arith, length-push pre e);
+  named = λ d. ap (λ x. nameOf (x .name)) (getD-at pre e [] d (length pre) refl) ∙ is;
+  at-is = λ d. ap (λ x. x .at) (getD-at pre e [] d (length pre) refl);
+  value-is = λ d. ap (λ x. x .value) (getD-at pre e [] d (length pre) refl);
+  only = λ i d l h. ⊎-elim
       (λ low. absurd (a i d low (ap (λ x. nameOf (x .name)) (sym (getD-append-left pre (e ∷ []) d i low)) ∙ h)))
       (λ high. omega (arith, length-push pre e))
-      (cases-lt i (length pre))
-  }
+      (cases-lt i (length pre));
+}
 
 first-some : (o : Option ℕ) (at : ℕ) → firstOf o at ≡ None → ⊥
 first-some None at e = none-some at (sym e)
@@ -69,8 +69,8 @@ step-slot t pre e m None slot is all once n =
     let f : Found = record { at = e .at; value = e .value } in
     let none : Absent m pre = subst (Sole m pre) slot (all m) in
     elim (slot-with t f m n) [
-      inl h ↦ subst (Sole n (pre ++ e ∷ [])) (sym (h .1)) (subst (λ x. OnlyOne x (pre ++ e ∷ []) f) (h .0) (only-new m pre e none is))
-    | inr h ↦ subst (Sole n (pre ++ e ∷ [])) (sym (h .1)) (sole-other n pre e (slotOf t n) (λ is′. h .0 (let same : _≡_ {A = Option Name} (Some m) (Some n) = sym is ∙ is′ in cc same)) (all n))
+      | inl h ↦ subst (Sole n (pre ++ e ∷ [])) (sym (h .1)) (subst (λ x. OnlyOne x (pre ++ e ∷ []) f) (h .0) (only-new m pre e none is))
+      | inr h ↦ subst (Sole n (pre ++ e ∷ [])) (sym (h .1)) (sole-other n pre e (slotOf t n) (λ is′. h .0 (let same : _≡_ {A = Option Name} (Some m) (Some n) = sym is ∙ is′ in cc same)) (all n))
     ]
 
 step-name : (t : Table) (pre : List Entry) (e : Entry) (o : Option Name) → nameOf (e .name) ≡ o → All-sole pre t → keptAs t o (record { at = e .at; value = e .value }) .repeated ≡ None → All-sole (pre ++ e ∷ []) (keptAs t o (record { at = e .at; value = e .value }))

@@ -51,27 +51,27 @@ record Alike (t u : Table) : Type 0 where
 
 both-slots : (t u : Table) (f g : Found) (m n : Name) → AlikeSlot (Some f) (Some g) → AlikeSlot (slotOf t n) (slotOf u n) → AlikeSlot (slotOf (withSlot t m f) n) (slotOf (withSlot u m g) n)
 both-slots t u f g m n new old = elim (slot-with t f m n) [
-      inl a ↦ elim (slot-with u g m n) [
-        inl b ↦ subst (λ x. AlikeSlot (slotOf (withSlot t m f) n) x) (sym (b .1)) (subst (λ x. AlikeSlot x (Some g)) (sym (a .1)) new)
-      | inr b ↦ absurd (b .0 (a .0))
-      ]
-    | inr a ↦ elim (slot-with u g m n) [
-        inl b ↦ absurd (a .0 (b .0))
-      | inr b ↦ subst (λ x. AlikeSlot (slotOf (withSlot t m f) n) x) (sym (b .1)) (subst (λ x. AlikeSlot x (slotOf u n)) (sym (a .1)) old)
-      ]
-    ]
+  | inl a ↦ elim (slot-with u g m n) [
+    | inl b ↦ subst (λ x. AlikeSlot (slotOf (withSlot t m f) n) x) (sym (b .1)) (subst (λ x. AlikeSlot x (Some g)) (sym (a .1)) new)
+    | inr b ↦ absurd (b .0 (a .0))
+  ]
+  | inr a ↦ elim (slot-with u g m n) [
+    | inl b ↦ absurd (a .0 (b .0))
+    | inr b ↦ subst (λ x. AlikeSlot (slotOf (withSlot t m f) n) x) (sym (b .1)) (subst (λ x. AlikeSlot x (slotOf u n)) (sym (a .1)) old)
+  ]
+]
 
 placed-alike : (t u : Table) (m : Name) (f g : Found) (s r : Option Found) → AlikeSlot s r → AlikeSlot (Some f) (Some g) → Alike t u → Alike (placed s t m f) (placed r u m g)
 placed-alike t u m f g None None h new a = record {
-    slots = λ n. both-slots t u f g m n new (a .slots n);
-    again-alike = with-repeated t f m ∙ (a .again-alike ∙ sym (with-repeated u g m))
-  }
+  slots = λ n. both-slots t u f g m n new (a .slots n);
+  again-alike = with-repeated t f m ∙ (a .again-alike ∙ sym (with-repeated u g m));
+}
 placed-alike t u m f g None (Some y) h new a = absurd h
 placed-alike t u m f g (Some x) None h new a = absurd h
 placed-alike t u m f g (Some x) (Some y) h new a = record {
-    slots = λ n. subst (λ z. AlikeSlot (slotOf (again t (f .at)) n) z) (sym (again-slot u (g .at) n)) (subst (λ z. AlikeSlot z (slotOf u n)) (sym (again-slot t (f .at) n)) (a .slots n));
-    again-alike = ap (λ o. firstOf o (f .at)) (a .again-alike) ∙ ap (firstOf (u .repeated)) (new .0)
-  }
+  slots = λ n. subst (λ z. AlikeSlot (slotOf (again t (f .at)) n) z) (sym (again-slot u (g .at) n)) (subst (λ z. AlikeSlot z (slotOf u n)) (sym (again-slot t (f .at) n)) (a .slots n));
+  again-alike = ap (λ o. firstOf o (f .at)) (a .again-alike) ∙ ap (firstOf (u .repeated)) (new .0);
+}
 
 kept-as-alike : (t u : Table) (o : Option Name) (f g : Found) → AlikeSlot (Some f) (Some g) → Alike t u → Alike (keptAs t o f) (keptAs u o g)
 kept-as-alike t u None f g new a = a

@@ -36,18 +36,18 @@ none-some x e = let w : _≡_ {A = ℕ} 0 1 = cc in omega arith
 
 id-long : (s : List ℕ) (id : SessionId) → idOf s ≡ Some id → length s ≡ 38
 id-long s id e = elim (cases-eq (length s) 38) [
-      inl h ↦ h
-    | inr h ↦ absurd (none-some id (sym (not-long s h) ∙ e))
-    ]
+  | inl h ↦ h
+  | inr h ↦ absurd (none-some id (sym (not-long s h) ∙ e))
+]
 
 -- an id begins with a brace, which is no separator
 id-first : (s rest : List ℕ) (id : SessionId) → idOf s ≡ Some id → divider (getD (s ++ rest) 0 0) ≡ false
 unfolding idOf
 id-first [] rest id e = absurd (omega (arith, id-long [] id e))
 id-first (b ∷ s) rest id e = elim (cases-bool (eqb b 123)) [
-      inl t ↦ ap divider (eqb-true b 123 t)
-    | inr t ↦ absurd (none-some id (sym (ap (λ o. both o (partOf serialShape (drop 19 (b ∷ s)))) (cond-false (fits siteShape (take 19 (b ∷ s))) (Some (value 16 (digitsAt siteShape (take 19 (b ∷ s))))) None (and-left (eqb b 123) _ t))) ∙ e))
-    ]
+  | inl t ↦ ap divider (eqb-true b 123 t)
+  | inr t ↦ absurd (none-some id (sym (ap (λ o. both o (partOf serialShape (drop 19 (b ∷ s)))) (cond-false (fits siteShape (take 19 (b ∷ s))) (Some (value 16 (digitsAt siteShape (take 19 (b ∷ s))))) None (and-left (eqb b 123) _ t))) ∙ e))
+]
 
 list-first : (v : List ℕ) (ids : List SessionId) → ListText v ids → divider (getD v 0 0) ≡ false
 list-first v [] h = absurd h
@@ -104,16 +104,18 @@ told-link : (v : List ℕ) (id : SessionId) (found b : Bool) (k : ℕ) → idOf 
 told-link v id found b k reads k-is some r = more (r .ids) (r .reads) (r .told) where
   t : List ℕ
   t = drop 38 v
+
   link : Link v id
   link = record {
-      text = take 38 v;
-      gap = take k t;
-      rest = drop k t;
-      is = sym (take-append-drop 38 v) ∙ ap (λ l. take 38 v ++ l) (sym (take-append-drop k t));
-      reads = reads;
-      parted = omega (arith, length-take-le k t (omega (arith, leading-le-length divider t)), some);
-      dividers = ap (λ n. every divider (take n t)) k-is ∙ leading-every divider t
-    }
+    text = take 38 v;
+    gap = take k t;
+    rest = drop k t;
+    is = sym (take-append-drop 38 v) ∙ ap (λ l. take 38 v ++ l) (sym (take-append-drop k t));
+    reads = reads;
+    parted = omega (arith, length-take-le k t (omega (arith, leading-le-length divider t)), some);
+    dividers = ap (λ n. every divider (take n t)) k-is ∙ leading-every divider t;
+  }
+
   more : (ids : List SessionId) → ListText (drop k t) ids → b ≡ ((found || ours id) || anyOurs ids) → Told v found b
   more [] h e = absurd h
   more (next ∷ ids) h e = record { ids = id ∷ next ∷ ids; reads = (link, h); told = e ∙ or-assoc found (ours id) (anyOurs (next ∷ ids)) }

@@ -54,10 +54,11 @@ before-sound mark s r e =
     let n = leading asciiDigit s in
     let p = cond-some (ltb n (length s) && eqb (getD s n 0) mark) (withRest (decimalOf (take n s)) (drop (n + 1) s)) r e in
     let q = and-parts (ltb n (length s)) (eqb (getD s n 0) mark) (p .0) in
-    let w = rest-is (decimalOf (take n s)) (drop (n + 1) s) r (p .1) in
-    (take n s,
-     sym (take-append-drop n s) ∙ ap (λ l. take n s ++ l) (drop-more s n 0 (ltb-true n (length s) (q .0)) ∙ ap (λ b. b ∷ drop (n + 1) s) (eqb-true (getD s n 0) mark (q .1)) ∙ ap (λ l. mark ∷ l) (w .1)),
-     w .0)
+    let w = rest-is (decimalOf (take n s)) (drop (n + 1) s) r (p .1) in (
+      take n s,
+      sym (take-append-drop n s) ∙ ap (λ l. take n s ++ l) (drop-more s n 0 (ltb-true n (length s) (q .0)) ∙ ap (λ b. b ∷ drop (n + 1) s) (eqb-true (getD s n 0) mark (q .1)) ∙ ap (λ l. mark ∷ l) (w .1)),
+      w .0,
+    )
 
 before-complete : (mark : ℕ) (a rest : List ℕ) (n : ℕ) → asciiDigit mark ≡ false → decimalOf a ≡ Some n → beforeMark mark (a ++ (mark ∷ rest)) ≡ Some (record { number = n; rest = rest })
 unfolding beforeMark
@@ -108,7 +109,7 @@ span-sound s r e =
       is = p .1 ∙ ap (λ x. p .0 ++ (45 ∷ x)) (q .1);
       from = p .2 ∙ ap Some (t .0);
       to = q .2 ∙ ap Some (t .1);
-      of = t .2
+      of = t .2;
     }
 
 span-complete : (a b t : List ℕ) (r : Range) → decimalOf a ≡ Some (r .first) → decimalOf b ≡ Some (r .last) → decimalOf t ≡ Some (r .total) → spanOf (a ++ (45 ∷ (b ++ (47 ∷ t)))) ≡ Some r
@@ -139,7 +140,7 @@ range-sound v r e =
       blanks = leading-every blank rest;
       from = s .from;
       to = s .to;
-      of = s .of
+      of = s .of;
     }
 
 -- no digit is a blank

@@ -38,10 +38,10 @@ request-complete input q r =
 pub exact : (input : List ℕ) → Exact input (packetOf input)
 unfolding packetOf
 exact input = record {
-    sound = λ q h. request-sound input (headOf input) q refl h;
-    complete = request-complete input;
-    unique = λ p q a b. let e = sym (request-complete input p a) ∙ request-complete input q b in cc e
-  }
+  sound = λ q h. request-sound input (headOf input) q refl h;
+  complete = request-complete input;
+  unique = λ p q a b. let e = sym (request-complete input p a) ∙ request-complete input q b in cc e;
+}
 
 pub passed : (input : List ℕ) → Passed input (packetOf input)
 unfolding packetOf

@@ -8,7 +8,14 @@ use crate::table::PAGE;
 use crate::table::Table;
 
 // Writes bytes as those of an owner from `at` on; `first` is the page where the first of them lies.
-pub(crate) fn write(table: &Table, region: &mut [u8], owner: usize, at: usize, first: u16, bytes: &[u8])
+pub(crate) fn write(
+    table: &Table,
+    region: &mut [u8],
+    owner: usize,
+    at: usize,
+    first: u16,
+    bytes: &[u8],
+)
     requires region { ⌜ length (now region) ≡ 4096 * now table .pages ⌝ }
     requires owner { ⌜ owner < 49 ⌝ }
     requires reach { ⌜ Reachable (pagesOf (now table .next) (now table .chains) owner) (countOf (now table .chains) owner) at first (length (now bytes)) ⌝ }
@@ -27,7 +34,14 @@ pub(crate) fn write(table: &Table, region: &mut [u8], owner: usize, at: usize, f
 }
 
 // Fills a slice with an owner's bytes from `at` on; `first` is the page where the first of them lies.
-pub(crate) fn read(table: &Table, region: &[u8], owner: usize, at: usize, first: u16, out: &mut [u8])
+pub(crate) fn read(
+    table: &Table,
+    region: &[u8],
+    owner: usize,
+    at: usize,
+    first: u16,
+    out: &mut [u8],
+)
     requires region { ⌜ length (now region) ≡ 4096 * now table .pages ⌝ }
     requires owner { ⌜ owner < 49 ⌝ }
     requires reach { ⌜ Reachable (pagesOf (now table .next) (now table .chains) owner) (countOf (now table .chains) owner) at first (length (now out)) ⌝ }

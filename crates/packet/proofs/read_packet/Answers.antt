@@ -12,5 +12,5 @@ returns c =
       value = c .parse .ensures;
       exact = subst (Exact input) same (exact input);
       passed = subst (Passed input) same (passed input);
-      caseless = subst (Caseless input) same (caseless input)
+      caseless = subst (Caseless input) same (caseless input);
     }
