@@ -16,11 +16,11 @@ pub const ROWS: usize = 16;
 
 // What a row is searched for.
 #[derive(Clone, Copy)]
-pub enum Wanted<'a> {
+pub enum Wanted {
     // no session
     Free,
-    // the session of a serial and a path
-    Named(u64, &'a [u8]),
+    // the session of a serial and the path
+    Named(u64),
     // the session of a serial, at the approver
     Asked(u64),
 }
@@ -31,14 +31,14 @@ fn leads_to(destination: &Destination, path: &[u8]) -> bool
     destination.as_bytes() == path
 }
 
-fn is_wanted(row: &Option<Session>, wanted: Wanted<'_>) -> bool
-    ensures { λ r. ⌜ r ≡ isWanted (wanted .entry) (rowOf (now (row .entry))) ⌝ }
+fn is_wanted(row: &Option<Session>, wanted: Wanted, path: &[u8]) -> bool
+    ensures { λ r. ⌜ r ≡ isWanted wanted (now (path .entry)) (rowOf (now (row .entry))) ⌝ }
 {
     match (row, wanted) {
         (None, Wanted::Free) => true,
         (None, _) => false,
         (Some(_), Wanted::Free) => false,
-        (Some(session), Wanted::Named(serial, path)) => {
+        (Some(session), Wanted::Named(serial)) => {
             session.serial == serial && leads_to(&session.destination, path)
         }
         (Some(session), Wanted::Asked(serial)) => {
@@ -47,13 +47,13 @@ fn is_wanted(row: &Option<Session>, wanted: Wanted<'_>) -> bool
     }
 }
 
-// The lowest row that is wanted.
-pub fn first_row(rows: &[Option<Session>; ROWS], wanted: Wanted<'_>) -> Option<usize>
-    ensures value { λ r. ⌜ r ≡ indexOf (isWanted (wanted .entry)) (map rowOf (now (rows .entry))) ⌝ }
+// The lowest row that is wanted; the path matters only for a named session.
+pub fn first_row(rows: &[Option<Session>; ROWS], wanted: Wanted, path: &[u8]) -> Option<usize>
+    ensures value { λ r. ⌜ r ≡ indexOf (isWanted wanted (now (path .entry))) (map rowOf (now (rows .entry))) ⌝ }
     ensures within { λ r. ⌜ Cases r (Unit {0}) (λ i. i < 16) ⌝ }
 {
     for i in 0..ROWS {
-        if is_wanted(&rows[i], wanted) {
+        if is_wanted(&rows[i], wanted, path) {
             return Some(i);
         }
     }
