@@ -1,20 +1,24 @@
 -- An input reads as a request exactly where it begins with one.
 use mathlib.Core.Path.{_≡_, refl, sym, ap, subst, _∙_}
-use mathlib.Core.List.{List}
-use Prim.Native.Nat.{ℕ}
+use mathlib.Core.List.{List, _∷_, _++_}
+use Prim.Native.Nat.{ℕ, _+_, _≤_}
 use native.Mathlib.Omega.{arith}
-use lib.ListN.{take, drop}
+use lib.ListN.{length, take, drop, length-append, length-take, length-drop}
+use Rattle.std.specs.Vec.{made}
 use Rattle.std.specs.declared.result.Result.{Result}
 use Rattle.std.specs.declared.result.Result.the-variants.{Ok, Err}
 use Rattle.head.specs.Heads.{Reading, headOf}
 use Rattle.head.specs.declared.Fault as text
-use Rattle.head.specs.Grammar.{WellFormed}
+use Rattle.head.specs.Marks.{headMark}
+use Rattle.head.specs.Lines.{requestOf}
+use Rattle.head.specs.Grammar.{WellFormed, joinLines}
 use Rattle.head.specs.Laws as heads
 use Rattle.head.proofs.Wholes as whole
 use Rattle.packet.specs.declared.Fault.{Fault}
 use Rattle.packet.specs.declared.Fault.the-variants.{Text}
 use Rattle.packet.specs.Judging.{andThen, judgedOf}
-use Rattle.packet.specs.Packets.{Request, requestFrom, withHead, packetOf}
+use Rattle.packet.specs.declared.Packet.{Packet}
+use Rattle.packet.specs.Packets.{Request, requestFrom, withHead, packetOf, request, seen}
 use Rattle.packet.specs.Laws.{IsRequest, Exact, Passed}
 use Rattle.packet.proofs.NeedForms.{judged-sound, judged-complete, then-ok}
 
@@ -46,3 +50,13 @@ exact input = record {
 pub passed : (input : List ℕ) → Passed input (packetOf input)
 unfolding packetOf
 passed input e is = ap (withHead input) is
+
+-- a request lies in its input
+pub request-within : (input : List ℕ) (r : Result Packet Fault) → seen r ≡ packetOf input → made r (λ p. p .«head_size» + length (p .body .now) ≤ length input)
+request-within input (Ok p) e =
+    let q = exact input .sound (request p) (sym e) in
+    let size = q .head .size in
+    let h = q .formed .parts in
+    let inside : size ≤ length input = omega (arith, h .sized, ap length (h .is), length-append (joinLines (requestOf (q .head .path) ∷ h .lines)) (headMark ++ h .rest)) in
+    omega (arith, inside, q .size-is, ap length (q .body-is), length-take (p .«content_length») (drop size input), length-drop size input)
+request-within input (Err f) e = tt

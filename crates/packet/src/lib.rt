@@ -1,6 +1,8 @@
 // A request: the known fields of its head judged in order, and the typed packet that they give.
 ghost use mathlib.Core.Path.{_≡_};
-ghost use lib.ListN.{take};
+ghost use Prim.Native.Nat.{_+_, _≤_};
+ghost use lib.ListN.{length, take};
+ghost use Rattle.std.specs.Vec.{made};
 ghost use Rattle.packet.specs.declared.Fault.the-variants.{Text};
 ghost use Rattle.packet.specs.Faults.{numberOf, placeOf};
 ghost use Rattle.packet.specs.Packets.{packetOf, seen};
@@ -91,6 +93,7 @@ fn parse(input: &[u8]) -> Result<Packet<'_>, Fault>
 // Reads the request that `input` begins with.
 pub fn read_packet(input: &[u8]) -> Result<Packet<'_>, Fault>
     ensures value { λ r. ⌜ seen r ≡ packetOf (now (input .entry)) ⌝ }
+    ensures within { λ r. ⌜ made r (λ p. p .«head_size» + length (now (p .body)) ≤ length (now (input .entry))) ⌝ }
     ensures exact { λ r. ⌜ Exact (now (input .entry)) (seen r) ⌝ }
     ensures passed { λ r. ⌜ Passed (now (input .entry)) (seen r) ⌝ }
     ensures caseless { λ r. ⌜ Caseless (now (input .entry)) (seen r) ⌝ }

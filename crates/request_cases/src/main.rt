@@ -1,4 +1,8 @@
 // Runs tables of requests, whole and damaged, and compares the number and the place that each gives.
+ghost use mathlib.Core.Path.{_≡_};
+ghost use Rattle.std.specs.Results.{Cases};
+ghost use Rattle.packet.specs.Faults.{numberOf, placeOf};
+ghost use Rattle.packet.specs.Packets.{packetOf};
 use crate::tables::Case;
 use packet::read_packet;
 use std::alloc::AllocError;
@@ -15,7 +19,9 @@ struct Outcome {
     place: usize,
 }
 
-fn read_as(input: &[u8]) -> Outcome {
+fn read_as(input: &[u8]) -> Outcome
+    ensures { λ r. ⌜ Cases (packetOf (now (input .entry))) (λ _. (r .number ≡ 0) × (r .place ≡ 0)) (λ e. (r .number ≡ numberOf e) × (r .place ≡ placeOf e)) ⌝ }
+{
     match read_packet(input) {
         Ok(_) => Outcome {
             number: 0,
