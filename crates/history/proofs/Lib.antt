@@ -1,0 +1,9 @@
+pub mod Parts
+pub mod Rows
+pub mod OneRow
+pub mod Taken
+pub mod Refusals
+pub mod Messages
+pub mod Verdicts
+pub mod Ticks
+pub mod Histories
