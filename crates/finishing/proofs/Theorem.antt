@@ -36,19 +36,19 @@ module _ (sets : Settings) (i : ℕ) (a : Live) (t : ℕ) (z : World) (agreed : 
           (subst (λ n. forbidden sets (stands z n) ≡ false) (sym (h .path)) (c .free))
       ∙ cond-true (z .store .publishable i (y .path)) None (Some StoreFull) (subst (λ n. z .store .publishable i n ≡ true) (sym (h .path)) (c .can))
 
-  close-plan : planOf sets z (c .request) ≡ close i y
+  pub close-plan : planOf sets z (c .asks .request) ≡ close i y
   close-plan =
-      plan-close z i y (h .lone) sets (c .request) (c .id) up (c .action) (c .site) (c .serial ∙ sym (h .serial)) (c .path ∙ sym (h .path))
+      plan-close z i y (h .lone) sets (c .asks .request) (c .asks .id) up (c .asks .action) (c .asks .site) (c .asks .serial ∙ sym (h .serial)) (c .asks .path ∙ sym (h .path))
       ∙ ap (λ o. unless o (close i y)) no-close-fault
 
   close-number : messageOutcome sets z page input ≡ Done
-  close-number = outcome-by sets z page input (c .request) (close i y) (c .wide) (c .read) close-plan
+  close-number = outcome-by sets z page input (c .asks .request) (close i y) (c .asks .wide) (c .asks .read) close-plan
 
   close-done : Stepped sets z (message page input) v → Closed z i y v
-  close-done step = done-by sets z page input v (c .request) (close i y) (c .wide) (c .read) close-plan step
+  close-done step = done-by sets z page input v (c .asks .request) (close i y) (c .asks .wide) (c .asks .read) close-plan step
 
 pub finishable : Finishable
-finishable sets w i x t cs z page input v up g f =
+finishable sets up w i x t cs z page input v g f =
     let k : Arrives sets i x t w x cs z = arrive sets i x t up (f .limit) (f .sends) x (at-start sets w i x t g (f .room)) in
     record {
       number = close-number sets i x t z (k .agreed) (k .session) page input v up (k .holds) (k .sure) (f .closes);

@@ -66,8 +66,8 @@ pub record Fits (sets : Settings) (w : World) (i : ℕ) (x : Live) (t page : ℕ
   pub reach : range .first ≤ countOf (row (w .rows) i)
   pub all : range .total ≡ t
 
--- a message that is read as a close of session x, where its slot may and can be published
-pub record Closes (sets : Settings) (w : World) (i : ℕ) (x : Live) (page : ℕ) (input : List ℕ) : Type 0 where
+-- a message that is read as a close of session x
+pub record Asks (sets : Settings) (x : Live) (page : ℕ) (input : List ℕ) : Type 0 where
   pub wide : 1024 ≤ page
   pub request : Request
   pub read : packetOf input ≡ Ok request
@@ -76,6 +76,10 @@ pub record Closes (sets : Settings) (w : World) (i : ℕ) (x : Live) (page : ℕ
   pub site : id .site ≡ sets .site
   pub serial : id .serial ≡ x .serial
   pub path : request .path ≡ x .path
+
+-- such a message where the destination is free or overwriting is on, and the slot can be published
+pub record Closes (sets : Settings) (w : World) (i : ℕ) (x : Live) (page : ℕ) (input : List ℕ) : Type 0 where
+  pub asks : Asks sets x page input
   pub free : forbidden sets (stands w (x .path)) ≡ false
   pub can : w .store .publishable i (x .path) ≡ true
 
@@ -141,10 +145,14 @@ pub record Finished (sets : Settings) (w : World) (i : ℕ) (x : Live) (t : ℕ)
   pub begins : (p : ℕ) → p < x .received → getD bytes p 0 ≡ getD (w .store .held i) p 0
   pub follows : (p : ℕ) → x .received ≤ p → p < t → firstCarried cs p ≡ Some (getD bytes p 0)
 
--- every receiving session can be finished, by every finishing list
+-- every receiving session can be finished, by every finishing list, under these settings
+abbrev pub FinishableUnder : Settings → Type 0
+FinishableUnder sets = (w : World) (i : ℕ) (x : Live) (t : ℕ) (cs : List Call) (z : World) (page : ℕ) (input : List ℕ) (v : World)
+    → Good w i x → Finishing sets w i x t cs z page input v → Finished sets w i x t cs z page input v
+
+-- where uploads are on: where they are off, no session is ever opened
 abbrev pub Finishable : Type 0
-Finishable = (sets : Settings) (w : World) (i : ℕ) (x : Live) (t : ℕ) (cs : List Call) (z : World) (page : ℕ) (input : List ℕ) (v : World)
-    → sets .uploads ≡ true → Good w i x → Finishing sets w i x t cs z page input v → Finished sets w i x t cs z page input v
+Finishable = (sets : Settings) → sets .uploads ≡ true → FinishableUnder sets
 
 -- a finishing list is a run of calls
 abbrev pub AreRuns : Type 0
@@ -167,3 +175,21 @@ OneFragmentApproved = (sets : Settings) (w : World) (i : ℕ) (x : Live) (t page
     → 1024 ≤ page1 → isAddress address ≡ true → Stepped sets u (answer page1 (x .serial) (yes address)) z
     → Closes sets z i x page2 input2 → Stepped sets z (message page2 input2) v
     → Finishing sets w i x t (message page input ∷ answer page1 (x .serial) (yes address) ∷ []) z page2 input2 v
+
+-- And they can be run: from every world with a receiving session and a free destination, a fragment that fits and reaches the
+-- end, with a yes where the approver is told, and a close, lead through some worlds as a finishing list.
+pub record Ran (sets : Settings) (w : World) (i : ℕ) (x : Live) (t : ℕ) (cs : List Call) (page : ℕ) (input : List ℕ) : Type 0 where
+  pub before : World
+  pub final : World
+  pub list : Finishing sets w i x t cs before page input final
+
+abbrev pub shortest : Settings → ℕ → List ℕ → ℕ → ℕ → List ℕ → List Call
+shortest sets page input page1 serial address =
+    cond (sets .approver) (message page input ∷ answer page1 serial (yes address) ∷ []) (message page input ∷ [])
+
+abbrev pub CanRun : Type 0
+CanRun = (sets : Settings) (w : World) (i : ℕ) (x : Live) (t page : ℕ) (input : List ℕ) (page1 : ℕ) (address : List ℕ) (page2 : ℕ) (input2 : List ℕ)
+    → sets .uploads ≡ true → Good w i x → t ≤ sets .maximum → t - x .received ≤ w .store .room i
+    → (f : Fits sets w i x t page input) → f .range .last + 1 ≡ t → 1024 ≤ page1 → isAddress address ≡ true
+    → Asks sets x page2 input2 → forbidden sets (stands w (x .path)) ≡ false
+    → Ran sets w i x t (shortest sets page input page1 (x .serial) address) page2 input2
