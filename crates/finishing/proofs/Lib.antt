@@ -8,3 +8,5 @@ pub mod Verdicts
 pub mod Carried
 pub mod Law
 pub mod Theorem
+pub mod Models
+pub mod Shortest

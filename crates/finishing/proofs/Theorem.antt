@@ -79,6 +79,14 @@ one-fragment sets w i x t page input z page2 input2 v off limit room f e step c 
       closes = c;
       closed = closed }
 
+-- a yes with a good address is taken by a session at the approver
+pub yes-taken : (sets : Settings) (i : ℕ) (x : Live) (t : ℕ) (u z : World) (ended : Bool) (y : Live) (page : ℕ) (address : List ℕ)
+    → Holds sets i (x .serial) (x .path) t u ended false y → 1024 ≤ page → Stepped sets u (answer page (x .serial) (yes address)) z
+    → isAway (y .phase) ≡ true → isAddress address ≡ true → answerOutcome u page (x .serial) (yes address) ≡ Done
+yes-taken sets i x t u z ended y page address h wide step away good =
+    word-taken sets i (x .serial) (x .path) t u z ended false y page (yes address) h wide step away
+    ∙ cond-true (isAddress address) Done BadReplyAddress good
+
 pub one-fragment-approved : OneFragmentApproved
 one-fragment-approved sets w i x t page input u page1 address z page2 input2 v up g told limit room f e step wide good step1 c closed =
     let h = at-start sets w i x t g room in
@@ -86,9 +94,7 @@ one-fragment-approved sets w i x t page input u page1 address z page2 input2 v u
     let n : isAway (x .phase) ≡ false = ap isAway (g .receives) in
     let k = holds-taken sets i x t w u false false x page input up limit h f step n in
     let away : isAway (y .phase) ≡ true = sent-away sets i x t w u false false x page input up limit h f step (g .receives) told e in
-    let o : answerOutcome u page1 (x .serial) (yes address) ≡ Done
-          = word-taken sets i (x .serial) (x .path) t u z (eqb (f .range .last + 1) t) false y page1 (yes address) k wide step1 away
-            ∙ cond-true (isAddress address) Done BadReplyAddress good in
+    let o = yes-taken sets i x t u z (eqb (f .range .last + 1) t) y page1 address k wide step1 away good in
     record {
       limit = limit;
       room = room;
