@@ -1,0 +1,12 @@
+pub mod Rows
+pub mod Phases
+pub mod Faults
+pub mod Lone
+pub mod State
+pub mod Fragments
+pub mod Verdicts
+pub mod Carried
+pub mod Law
+pub mod Theorem
+pub mod Models
+pub mod Shortest

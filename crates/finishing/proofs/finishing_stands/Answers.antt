@@ -1,0 +1,6 @@
+use Rattle.finishing.proofs.Theorem.{finishable, are-runs, one-fragment, one-fragment-approved}
+use Rattle.finishing.proofs.Shortest.{can-run}
+use Rattle.finishing.proofs.finishing_stands.Needs as need
+
+pub returns : need.returns
+returns c = record { finishable = finishable; runs = are-runs; unapproved = one-fragment; approved = one-fragment-approved; possible = can-run }
