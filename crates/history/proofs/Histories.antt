@@ -46,15 +46,17 @@ no-row rs i x e h = ⊎-elim
 -- an intake newly set up
 started : (sets : Settings) (m : Meaning) (w : World) → Started sets m w → Tells sets (m .catalog) (blank sets) w
 started sets m w s = record {
-    next = s .next;
-    clock = s .clock;
-    sessions = record {
-      size = ap length (s .rows);
-      each = λ i x h. absurd (no-row (w .rows) i x (s .rows) h);
-      all = λ n e h. absurd (none-some e h);
-      apart = λ i j x y f g e. absurd (no-row (w .rows) i x (s .rows) f);
-      young = λ i x h. absurd (no-row (w .rows) i x (s .rows) h) };
-    catalog = s .names }
+  next = s .next;
+  clock = s .clock;
+  sessions = record {
+    size = ap length (s .rows);
+    each = λ i x h. absurd (no-row (w .rows) i x (s .rows) h);
+    all = λ n e h. absurd (none-some e h);
+    apart = λ i j x y f g e. absurd (no-row (w .rows) i x (s .rows) f);
+    young = λ i x h. absurd (no-row (w .rows) i x (s .rows) h);
+  };
+  catalog = s .names;
+}
 
 pub faithful : Faithful
 unfolding Faithful

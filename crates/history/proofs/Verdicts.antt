@@ -37,31 +37,33 @@ is-asked serial r x h e =
 module _ (sets : Settings) (e : Entry) (x : Live) (slot : List ℕ) (k : Keeps sets e x slot) where
   yes-keeps : (a : List ℕ) → isAway (x .phase) ≡ true → Keeps sets (approved (step.yes a) e) (ruled (session.ready a) x) slot
   yes-keeps a h = record {
-      path = k .path;
-      total = k .total;
-      state = refl;
-      stamp = k .stamp;
-      bytes = k .bytes;
-      size = k .size;
-      count = k .count;
-      bound = k .bound;
-      unset = k .unset;
-      whole = λ ne. k .whole (λ z. receives-no-more (x .phase) h (k .state ∙ z));
-      told = λ b c. refl }
+    path = k .path;
+    total = k .total;
+    state = refl;
+    stamp = k .stamp;
+    bytes = k .bytes;
+    size = k .size;
+    count = k .count;
+    bound = k .bound;
+    unset = k .unset;
+    whole = λ ne. k .whole (λ z. receives-no-more (x .phase) h (k .state ∙ z));
+    told = λ b c. refl;
+  }
 
   no-keeps : Keeps sets (refused e) (ruled session.receiving x) slot
   no-keeps = record {
-      path = k .path;
-      total = k .total;
-      state = refl;
-      stamp = k .stamp;
-      bytes = k .bytes;
-      size = k .size;
-      count = k .count;
-      bound = k .bound;
-      unset = k .unset;
-      whole = λ ne. absurd (ne refl);
-      told = λ b c. let z : _≡_ {A = ℕ} 0 1 = cc in absurd (omega arith) }
+    path = k .path;
+    total = k .total;
+    state = refl;
+    stamp = k .stamp;
+    bytes = k .bytes;
+    size = k .size;
+    count = k .count;
+    bound = k .bound;
+    unset = k .unset;
+    whole = λ ne. absurd (ne refl);
+    told = λ b c. let z : _≡_ {A = ℕ} 0 1 = cc in absurd (omega arith);
+  }
 
 module _ (sets : Settings) (start : List ℕ → Option (List ℕ)) (l : Ledger) (w v : World) (t : Tells sets start l w) where
   -- the session's record and its entry are changed
@@ -73,9 +75,10 @@ module _ (sets : Settings) (start : List ℕ → Option (List ℕ)) (l : Ledger)
         next = d .next ∙ t .next;
         clock = d .clock ∙ t .clock;
         sessions = live-row sets (l .sessions) (written l serial (Some (f e)) .sessions) (l .next) (w .rows) (v .rows) (w .store .held) (v .store .held) i serial x
-          (Some (ruled p x)) (Some (f e)) (t .sessions) h s (d .rows) (λ j ne. slots j) (λ n. refl)
-          (s, at-slot sets (f e) (ruled p x) (v .store .held i) (w .store .held i) (slots i) k);
-        catalog = kept-names sets start l w v t (λ n. ap (λ m. m .catalog n) same) })
+            (Some (ruled p x)) (Some (f e)) (t .sessions) h s (d .rows) (λ j ne. slots j) (λ n. refl)
+            (s, at-slot sets (f e) (ruled p x) (v .store .held i) (w .store .held i) (slots i) k);
+        catalog = kept-names sets start l w v t (λ n. ap (λ m. m .catalog n) same);
+      })
 
   module _ (serial i : ℕ) (x : Live) (there : row (w .rows) i ≡ Some x) (of : x .serial ≡ serial) (asks : isAway (x .phase) ≡ true) (same : v .store ≡ w .store) where
     its : (e : Entry) × (l .sessions serial ≡ Some e) × Keeps sets e x (w .store .held i)
