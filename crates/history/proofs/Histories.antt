@@ -1,6 +1,6 @@
 -- Whole runs.
 use mathlib.Core.Path.{_≡_, refl, sym, ap, subst, _∙_}
-use mathlib.Core.List.{List, [], _∷_}
+use mathlib.Core.List.{List, [], _∷_, _++_}
 use mathlib.Core.Logic.{_⊎_, inl, inr, ⊎-elim}
 use Prim.Native.Nat.{ℕ, _<_, _≤_}
 use native.Mathlib.Omega.{arith}
@@ -27,7 +27,7 @@ step sets start l w v (message page input) n t d =
     let P : ℕ → Type 0 = λ k. Tells sets start (afterMessage sets l k (packetOf input)) v in
     subst P (sym (d .0)) (message-tells sets start l w v t page input (d .1))
 step sets start l w v (answer page serial word) n t d =
-    let P : ℕ → Type 0 = λ k. Tells sets start (afterAnswer l k serial) v in
+    let P : ℕ → Type 0 = λ k. Tells sets start (afterAnswer l k serial word) v in
     subst P (sym (d .0)) (answer-tells sets start l w v t page serial word (d .1))
 step sets start l w v (tick reading) n t d = tick-tells sets start l w v reading n t d
 
@@ -46,16 +46,23 @@ no-row rs i x e h = ⊎-elim
 -- an intake newly set up
 started : (sets : Settings) (m : Meaning) (w : World) → Started sets m w → Tells sets (m .catalog) (blank sets) w
 started sets m w s = record {
-    next = s .next;
-    clock = s .clock;
-    sessions = record {
-      size = ap length (s .rows);
-      each = λ i x h. absurd (no-row (w .rows) i x (s .rows) h);
-      all = λ n e h. absurd (none-some e h);
-      apart = λ i j x y f g e. absurd (no-row (w .rows) i x (s .rows) f);
-      young = λ i x h. absurd (no-row (w .rows) i x (s .rows) h) };
-    catalog = s .names }
+  next = s .next;
+  clock = s .clock;
+  sessions = record {
+    size = ap length (s .rows);
+    each = λ i x h. absurd (no-row (w .rows) i x (s .rows) h);
+    all = λ n e h. absurd (none-some e h);
+    apart = λ i j x y f g e. absurd (no-row (w .rows) i x (s .rows) f);
+    young = λ i x h. absurd (no-row (w .rows) i x (s .rows) h);
+  };
+  catalog = s .names;
+}
 
 pub faithful : Faithful
 unfolding Faithful
 faithful sets m u w es s r = runs sets (m .catalog) es (blank sets) u w (started sets m u s) r
+
+-- a run goes on by one call
+pub runs-push : (sets : Settings) (es : List Event) (w u v : World) (e : Event) → Runs sets w es u → Stepped sets u (e .call) (e .number) v → Runs sets w (es ++ e ∷ []) v
+runs-push sets [] w u v e r s = let P : World → Type 0 = λ z. Stepped sets z (e .call) (e .number) v in (v, subst P r s, refl)
+runs-push sets (d ∷ es) w u v e r s = (r .0, r .1, runs-push sets es (r .0) u v e (r .2) s)

@@ -45,17 +45,18 @@ not-ready e = let y : _≡_ {A = ℕ} 0 1 = cc in omega arith
 
 new-keeps : (sets : Settings) (path : List ℕ) (clock tells next : ℕ) → clock ≡ tells → Keeps sets (newEntry path tells) (opened clock next path) []
 new-keeps sets path clock tells next e = record {
-    path = refl;
-    total = refl;
-    state = refl;
-    stamp = e;
-    bytes = λ p. refl;
-    size = refl;
-    count = refl;
-    bound = λ t f. absurd (none-some t f);
-    unset = λ f. refl;
-    whole = λ ne. absurd (ne refl);
-    told = λ a f. absurd (not-ready f) }
+  path = refl;
+  total = refl;
+  state = refl;
+  stamp = e;
+  bytes = λ p. refl;
+  size = refl;
+  count = refl;
+  bound = λ t f. absurd (none-some t f);
+  unset = λ f. refl;
+  whole = λ ne. absurd (ne refl);
+  told = λ a f. absurd (not-ready f);
+}
 
 pub at-slot : (sets : Settings) (e : Entry) (x : Live) (s t : List ℕ) → s ≡ t → Keeps sets e x t → Keeps sets e x s
 at-slot sets e x s t h k = let P : List ℕ → Type 0 = λ z. Keeps sets e x z in subst P (sym h) k
@@ -103,7 +104,7 @@ module _ (sets : Settings) (start : List ℕ → Option (List ℕ)) (l : Ledger)
   refused-after q a o f d =
       let P : Ledger → Type 0 = λ z. Tells sets start z v in
       let e : afterRequest sets l (number o) q a ≡ l =
-            ap (λ b. cond b (afterDone sets l q a) (cond (eqb (number o) 19) (afterCut sets l q a) l)) (f .0) ∙ ap (λ b. cond b (afterCut sets l q a) l) (f .1) in
+      ap (λ b. cond b (afterDone sets l q a) (cond (eqb (number o) 19) (afterCut sets l q a) l)) (f .0) ∙ ap (λ b. cond b (afterCut sets l q a) l) (f .1) in
       subst P (sym e) (unchanged d)
 
   opened-after : (q : Request) (shared : Bool) (i : ℕ) → indexOf isFree (w .rows) ≡ Some i → After sets start l w v q (Create shared) (create i)
@@ -111,15 +112,16 @@ module _ (sets : Settings) (start : List ℕ → Option (List ℕ)) (l : Ledger)
       let g = passes isFree (w .rows) i f in
       let lt = g .0 in
       record {
-      next = d .next ∙ ap (λ n. n + 1) (t .next);
-      clock = d .clock ∙ t .clock;
-      sessions = one-row sets (l .sessions) (opening l (q .path) .sessions) (l .next) (l .next + 1) (w .rows) (v .rows) (w .store .held) (v .store .held) i (l .next)
-        (Some (opened (w .clock) (w .next) (q .path))) (Some (newEntry (q .path) (l .clock))) (t .sessions) (omega (arith, t .sessions .size))
-        (λ j y h e. let z = t .sessions .young j y h in absurd (omega arith))
-        (λ y h. absurd (free-row (row (w .rows) i) y (g .1) h))
-        (d .rows) (d .cleared .others) (λ n. refl) (omega arith) (omega arith)
-        (t .next, at-slot sets (newEntry (q .path) (l .clock)) (opened (w .clock) (w .next) (q .path)) (v .store .held i) [] (d .cleared .emptied) (new-keeps sets (q .path) (w .clock) (l .clock) (w .next) (t .clock)));
-      catalog = kept-names (d .cleared .names) }
+        next = d .next ∙ ap (λ n. n + 1) (t .next);
+        clock = d .clock ∙ t .clock;
+        sessions = one-row sets (l .sessions) (opening l (q .path) .sessions) (l .next) (l .next + 1) (w .rows) (v .rows) (w .store .held) (v .store .held) i (l .next)
+            (Some (opened (w .clock) (w .next) (q .path))) (Some (newEntry (q .path) (l .clock))) (t .sessions) (omega (arith, t .sessions .size))
+            (λ j y h e. let z = t .sessions .young j y h in absurd (omega arith))
+            (λ y h. absurd (free-row (row (w .rows) i) y (g .1) h))
+            (d .rows) (d .cleared .others) (λ n. refl) (omega arith) (omega arith)
+            (t .next, at-slot sets (newEntry (q .path) (l .clock)) (opened (w .clock) (w .next) (q .path)) (v .store .held i) [] (d .cleared .emptied) (new-keeps sets (q .path) (w .clock) (l .clock) (w .next) (t .clock)));
+        catalog = kept-names (d .cleared .names);
+      }
 
   known : (id : SessionId) (path : List ℕ) (i : ℕ) (x : Live) → found sets w id path ≡ Some i → row (w .rows) i ≡ Some x → Known sets l w id path i x
   known id path i x f h =
@@ -129,13 +131,14 @@ module _ (sets : Settings) (start : List ℕ → Option (List ℕ)) (l : Ledger)
       let g = t .sessions .each i x h in
       let s : l .sessions (id .serial) ≡ Some (g .0) = ap (l .sessions) (sym (c .0)) ∙ g .1 in
       record {
-      entry = g .0;
-      serial = c .0;
-      told =
-        ap (λ z. cond z (ofPath path (l .sessions (id .serial))) None) (a .0)
-        ∙ ap (ofPath path) s
-        ∙ ap (λ z. cond z (Some (g .0)) None) (ap (λ z. sameBytes z path) (sym (g .2 .path)) ∙ c .1);
-      keeps = g .2 }
+        entry = g .0;
+        serial = c .0;
+        told =
+            ap (λ z. cond z (ofPath path (l .sessions (id .serial))) None) (a .0)
+            ∙ ap (ofPath path) s
+            ∙ ap (λ z. cond z (Some (g .0)) None) (ap (λ z. sameBytes z path) (sym (g .2 .path)) ∙ c .1);
+        keeps = g .2;
+      }
 
   took-after : (q : Request) (id : SessionId) (r : Range) (at i : ℕ) (x : Live) → length (q .body) ≤ q .contentLength → found sets w id (q .path) ≡ Some i → row (w .rows) i ≡ Some x → fragmentFault sets x r at (q .contentLength) (w .store .room i) ≡ None → After sets start l w v q (Fragment id r at) (take i x r)
   took-after q id r at i x came f h none d =
@@ -150,10 +153,13 @@ module _ (sets : Settings) (start : List ℕ → Option (List ℕ)) (l : Ledger)
         next = d .written .next ∙ t .next;
         clock = d .written .clock ∙ t .clock;
         sessions = live-row sets (l .sessions) (written l (id .serial) (Some entry) .sessions) (l .next) (w .rows) (v .rows) (w .store .held) (v .store .held) i (id .serial) x
-          (Some session) (Some entry) (t .sessions) h (kn .serial) (d .written .rows) (d .added .others) (λ n. refl)
-          (kn .serial, at-slot sets entry session (v .store .held i) (w .store .held i ++ fresh x r (q .body)) (d .added .grown)
-            (taken-keeps sets (w .clock) (l .clock) (t .clock) (kn .entry) x (w .store .held i) r (q .body) (q .contentLength) (kn .keeps) (c .0) (c .1) (c .2) came b));
-        catalog = kept-names (d .added .names) })
+            (Some session) (Some entry) (t .sessions) h (kn .serial) (d .written .rows) (d .added .others) (λ n. refl) (
+              kn .serial,
+              at-slot sets entry session (v .store .held i) (w .store .held i ++ fresh x r (q .body)) (d .added .grown)
+                  (taken-keeps sets (w .clock) (l .clock) (t .clock) (kn .entry) x (w .store .held i) r (q .body) (q .contentLength) (kn .keeps) (c .0) (c .1) (c .2) came b),
+            );
+        catalog = kept-names (d .added .names);
+      })
 
   cancelled-after : (q : Request) (id : SessionId) (i : ℕ) (x : Live) → found sets w id (q .path) ≡ Some i → row (w .rows) i ≡ Some x → After sets start l w v q (Cancel id) (cancel i x)
   cancelled-after q id i x f h d =
@@ -163,8 +169,9 @@ module _ (sets : Settings) (start : List ℕ → Option (List ℕ)) (l : Ledger)
         next = d .written .next ∙ t .next;
         clock = d .written .clock ∙ t .clock;
         sessions = live-row sets (l .sessions) (written l (id .serial) None .sessions) (l .next) (w .rows) (v .rows) (w .store .held) (v .store .held) i (id .serial) x
-          None None (t .sessions) h (kn .serial) (d .written .rows) (d .cleared .others) (λ n. refl) tt;
-        catalog = kept-names (d .cleared .names) })
+            None None (t .sessions) h (kn .serial) (d .written .rows) (d .cleared .others) (λ n. refl) tt;
+        catalog = kept-names (d .cleared .names);
+      })
 
   closed-catalog : (id : SessionId) (path : List ℕ) (i : ℕ) (x : Live) (kn : Known sets l w id path i x) → standingOf (x .phase) ≡ ready → Closed w i x v → (n : List ℕ) → Stands sets (start n) (v .store .catalog n) (update sameBytes (l .published) (kn .entry .path) (Some (kn .entry)) n)
   closed-catalog id path i x kn s d n =
@@ -174,20 +181,21 @@ module _ (sets : Settings) (start : List ℕ → Option (List ℕ)) (l : Ledger)
       let g = sameBytes-decides n (e .path) in
       let st : e .standing ≡ ready = sym (k .state) ∙ s in
       ⊎-elim
-        (λ y.
-          let is : n ≡ x .path = g .0 y ∙ sym (k .path) in
-          let whole : Whole sets e (v .store .catalog n) = record {
-                bytes = w .store .held i;
-                stands = ap (v .store .catalog) is ∙ d .published .stored;
-                bundle = k .bytes;
-                length-told = sym (k .total) ∙ k .whole (λ z. not-ready (sym z ∙ st)) ∙ ap Some (k .size);
-                told = λ a. k .told a st } in
-          subst P (sym (ap (λ z. cond z (Some e) (l .published n)) y)) whole)
-        (λ y.
-          let ne : n ≡ x .path → ⊥ = λ z. both-ways (sameBytes n (e .path)) y (g .1 (z ∙ k .path)) in
-          let Q : Option (List ℕ) → Type 0 = λ c. Stands sets (start n) c (l .published n) in
-          subst P (sym (ap (λ z. cond z (Some e) (l .published n)) y)) (subst Q (sym (d .published .names n ne)) (t .catalog n)))
-        (cases-bool (sameBytes n (e .path)))
+      (λ y.
+      let is : n ≡ x .path = g .0 y ∙ sym (k .path) in
+      let whole : Whole sets e (v .store .catalog n) = record {
+        bytes = w .store .held i;
+        stands = ap (v .store .catalog) is ∙ d .published .stored;
+        bundle = k .bytes;
+        length-told = sym (k .total) ∙ k .whole (λ z. not-ready (sym z ∙ st)) ∙ ap Some (k .size);
+        told = λ a. k .told a st;
+      } in
+      subst P (sym (ap (λ z. cond z (Some e) (l .published n)) y)) whole)
+      (λ y.
+      let ne : n ≡ x .path → ⊥ = λ z. both-ways (sameBytes n (e .path)) y (g .1 (z ∙ k .path)) in
+      let Q : Option (List ℕ) → Type 0 = λ c. Stands sets (start n) c (l .published n) in
+      subst P (sym (ap (λ z. cond z (Some e) (l .published n)) y)) (subst Q (sym (d .published .names n ne)) (t .catalog n)))
+      (cases-bool (sameBytes n (e .path)))
 
   closed-after : (q : Request) (id : SessionId) (i : ℕ) (x : Live) → found sets w id (q .path) ≡ Some i → row (w .rows) i ≡ Some x → standingOf (x .phase) ≡ ready → After sets start l w v q (Close id) (close i x)
   closed-after q id i x f h s d =
@@ -197,8 +205,9 @@ module _ (sets : Settings) (start : List ℕ → Option (List ℕ)) (l : Ledger)
         next = d .written .next ∙ t .next;
         clock = d .written .clock ∙ t .clock;
         sessions = live-row sets (l .sessions) (update eqb (l .sessions) (id .serial) None) (l .next) (w .rows) (v .rows) (w .store .held) (v .store .held) i (id .serial) x
-          None None (t .sessions) h (kn .serial) (d .written .rows) (d .published .others) (λ n. refl) tt;
-        catalog = closed-catalog id (q .path) i x kn s d })
+            None None (t .sessions) h (kn .serial) (d .written .rows) (d .published .others) (λ n. refl) tt;
+        catalog = closed-catalog id (q .path) i x kn s d;
+      })
 
   free-after : (q : Request) (shared : Bool) (o : Option ℕ) → indexOf isFree (w .rows) ≡ o → After sets start l w v q (Create shared) (inRow o)
   free-after q shared None e = refused-after q (Create shared) TooManySessions (refl, refl)
@@ -208,24 +217,24 @@ module _ (sets : Settings) (start : List ℕ → Option (List ℕ)) (l : Ledger)
   unfolding createPlan
   acts q (Create shared) came =
       on-unless (createFault sets shared (q .path) (stands w (q .path)) (not (isSome (indexOf isFree (w .rows)))) (w .next)) (inRow (indexOf isFree (w .rows)))
-        (λ p. After sets start l w v q (Create shared) p)
-        (create-refuses sets shared (q .path) (stands w (q .path)) (not (isSome (indexOf isFree (w .rows)))) (w .next))
-        (refused-after q (Create shared)) (λ none. free-after q shared (indexOf isFree (w .rows)) refl)
+      (λ p. After sets start l w v q (Create shared) p)
+      (create-refuses sets shared (q .path) (stands w (q .path)) (not (isSome (indexOf isFree (w .rows)))) (w .next))
+      (refused-after q (Create shared)) (λ none. free-after q shared (indexOf isFree (w .rows)) refl)
   acts q Ping came = unchanged
   acts q (Fragment id r at) came =
       on-row w (found sets w id (q .path)) (takePlan sets w r at (q .contentLength)) (λ p. After sets start l w v q (Fragment id r at) p)
-        (refused-after q (Fragment id r at) NoSession (refl, refl))
-        (λ i x f h. on-unless (fragmentFault sets x r at (q .contentLength) (w .store .room i)) (take i x r) (λ p. After sets start l w v q (Fragment id r at) p)
-          (fragment-refuses sets x r at (q .contentLength) (w .store .room i)) (refused-after q (Fragment id r at)) (took-after q id r at i x came f h))
+      (refused-after q (Fragment id r at) NoSession (refl, refl))
+      (λ i x f h. on-unless (fragmentFault sets x r at (q .contentLength) (w .store .room i)) (take i x r) (λ p. After sets start l w v q (Fragment id r at) p)
+      (fragment-refuses sets x r at (q .contentLength) (w .store .room i)) (refused-after q (Fragment id r at)) (took-after q id r at i x came f h))
   acts q (Close id) came =
       on-row w (found sets w id (q .path)) (closePlan sets w) (λ p. After sets start l w v q (Close id) p)
-        (refused-after q (Close id) NoSession (refl, refl))
-        (λ i x f h. on-unless (closeFault sets (x .phase) (stands w (x .path)) (w .store .publishable i (x .path))) (close i x) (λ p. After sets start l w v q (Close id) p)
-          (close-refuses sets (x .phase) (stands w (x .path)) (w .store .publishable i (x .path))) (refused-after q (Close id))
-          (λ none. closed-after q id i x f h (close-none sets (x .phase) (stands w (x .path)) (w .store .publishable i (x .path)) none)))
+      (refused-after q (Close id) NoSession (refl, refl))
+      (λ i x f h. on-unless (closeFault sets (x .phase) (stands w (x .path)) (w .store .publishable i (x .path))) (close i x) (λ p. After sets start l w v q (Close id) p)
+      (close-refuses sets (x .phase) (stands w (x .path)) (w .store .publishable i (x .path))) (refused-after q (Close id))
+      (λ none. closed-after q id i x f h (close-none sets (x .phase) (stands w (x .path)) (w .store .publishable i (x .path)) none)))
   acts q (Cancel id) came =
       on-row w (found sets w id (q .path)) cancel (λ p. After sets start l w v q (Cancel id) p)
-        (refused-after q (Cancel id) NoSession (refl, refl)) (cancelled-after q id)
+      (refused-after q (Cancel id) NoSession (refl, refl)) (cancelled-after q id)
 
   enabled : (q : Request) (a : Action) → length (q .body) ≤ q .contentLength → After sets start l w v q a (cond (sets .uploads) (actionPlan sets w q a) (refuse UploadsOff))
   enabled q a came = cond-both (sets .uploads) (actionPlan sets w q a) (refuse UploadsOff) (λ p. After sets start l w v q a p) (λ on. acts q a came) (λ off. refused-after q a UploadsOff (refl, refl))

@@ -41,14 +41,14 @@ fits-entry sets s (Some y) None slot e f h = absurd f
 fits-entry sets s (Some y) (Some d) slot e f h = (y, refl, f .0)
 
 module _ (sets : Settings) (old new : ℕ → Option Entry) (n m : ℕ) (rs vs : List (Option Live)) (held kept : ℕ → List ℕ) (i s : ℕ) (r : Option Live) (t : Option Entry)
-  (k : Matched sets old n rs held) (inside : i < 16)
-  (mine : (j : ℕ) (y : Live) → row rs j ≡ Some y → y .serial ≡ s → j ≡ i)
-  (only : (y : Live) → row rs i ≡ Some y → y .serial ≡ s)
-  (rows : vs ≡ set rs i r)
-  (others : (j : ℕ) → (j ≡ i → ⊥) → kept j ≡ held j)
-  (entries : (q : ℕ) → new q ≡ update eqb old s t q)
-  (grows : n ≤ m) (below : s < m)
-  (fits : Fits sets s r t (kept i)) where
+    (k : Matched sets old n rs held) (inside : i < 16)
+    (mine : (j : ℕ) (y : Live) → row rs j ≡ Some y → y .serial ≡ s → j ≡ i)
+    (only : (y : Live) → row rs i ≡ Some y → y .serial ≡ s)
+    (rows : vs ≡ set rs i r)
+    (others : (j : ℕ) → (j ≡ i → ⊥) → kept j ≡ held j)
+    (entries : (q : ℕ) → new q ≡ update eqb old s t q)
+    (grows : n ≤ m) (below : s < m)
+    (fits : Fits sets s r t (kept i)) where
   here : row vs i ≡ r
   here = ap (λ l. row l i) rows ∙ getD-set-same rs i r None (omega (arith, k .size))
 
@@ -71,27 +71,27 @@ module _ (sets : Settings) (old new : ℕ → Option Entry) (n m : ℕ) (rs vs :
   each-row j x h = ⊎-elim
       (λ e. let f = mended j x e h in let P : ℕ → Type 0 = λ q. Keeps sets (f .0) x (kept q) in (f .0, ap new (f .2) ∙ at-s ∙ f .1, subst P (sym e) (f .3)))
       (λ ne.
-        let g = k .each j x (was j x ne h) in
-        let P : List ℕ → Type 0 = λ z. Keeps sets (g .0) x z in
-        (g .0, at-other (x .serial) (λ z. ne (mine j x (was j x ne h) z)) ∙ g .1, subst P (sym (others j ne)) (g .2)))
+      let g = k .each j x (was j x ne h) in
+      let P : List ℕ → Type 0 = λ z. Keeps sets (g .0) x z in
+      (g .0, at-other (x .serial) (λ z. ne (mine j x (was j x ne h) z)) ∙ g .1, subst P (sym (others j ne)) (g .2)))
       (cases-eq j i)
 
   all-rows : (q : ℕ) (e : Entry) → new q ≡ Some e → (j : ℕ) × (x : Live) × (row vs j ≡ Some x) × (x .serial ≡ q)
   all-rows q e h = ⊎-elim
       (λ z. let f = fits-entry sets s r t (kept i) e fits (sym at-s ∙ ap new (sym z) ∙ h) in (i, f .0, here ∙ f .1, f .2 ∙ sym z))
       (λ ne.
-        let g = k .all q e (sym (at-other q ne) ∙ h) in
-        let apart : g .0 ≡ i → ⊥ = λ z. ne (sym (g .3) ∙ only (g .1) (ap (λ c. row rs c) (sym z) ∙ g .2)) in
-        (g .0, g .1, off (g .0) apart ∙ g .2, g .3))
+      let g = k .all q e (sym (at-other q ne) ∙ h) in
+      let apart : g .0 ≡ i → ⊥ = λ z. ne (sym (g .3) ∙ only (g .1) (ap (λ c. row rs c) (sym z) ∙ g .2)) in
+      (g .0, g .1, off (g .0) apart ∙ g .2, g .3))
       (cases-eq q s)
 
   apart-rows : (a b : ℕ) (x y : Live) → row vs a ≡ Some x → row vs b ≡ Some y → x .serial ≡ y .serial → a ≡ b
   apart-rows a b x y f g e = ⊎-elim
       (λ ea. ⊎-elim (λ eb. ea ∙ sym eb) (λ nb. absurd (nb (mine b y (was b y nb g) (sym e ∙ mended a x ea f .2)))) (cases-eq b i))
       (λ na. ⊎-elim
-        (λ eb. absurd (na (mine a x (was a x na f) (e ∙ mended b y eb g .2))))
-        (λ nb. k .apart a b x y (was a x na f) (was b y nb g) e)
-        (cases-eq b i))
+      (λ eb. absurd (na (mine a x (was a x na f) (e ∙ mended b y eb g .2))))
+      (λ nb. k .apart a b x y (was a x na f) (was b y nb g) e)
+      (cases-eq b i))
       (cases-eq a i)
 
   young-rows : (j : ℕ) (x : Live) → row vs j ≡ Some x → x .serial < m
@@ -102,11 +102,12 @@ module _ (sets : Settings) (old new : ℕ → Option Entry) (n m : ℕ) (rs vs :
 
   pub one-row : Matched sets new m vs kept
   one-row = record {
-      size = ap length rows ∙ length-set rs i r ∙ k .size;
-      each = each-row;
-      all = all-rows;
-      apart = apart-rows;
-      young = young-rows }
+    size = ap length rows ∙ length-set rs i r ∙ k .size;
+    each = each-row;
+    all = all-rows;
+    apart = apart-rows;
+    young = young-rows;
+  }
 
 -- the row of a live session changes
 pub live-row : (sets : Settings) (old new : ℕ → Option Entry) (n : ℕ) (rs vs : List (Option Live)) (held kept : ℕ → List ℕ) (i s : ℕ) (x : Live) (r : Option Live) (t : Option Entry) → Matched sets old n rs held → row rs i ≡ Some x → x .serial ≡ s → vs ≡ set rs i r → ((j : ℕ) → (j ≡ i → ⊥) → kept j ≡ held j) → ((q : ℕ) → new q ≡ update eqb old s t q) → Fits sets s r t (kept i) → Matched sets new n vs kept
@@ -114,6 +115,6 @@ live-row sets old new n rs vs held kept i s x r t k there e rows others entries 
     let lt = row-inside rs i x there in
     let y = k .young i x there in
     one-row sets old new n n rs vs held kept i s r t k (omega (arith, k .size))
-      (λ j z h f. k .apart j i z x h there (f ∙ sym e))
-      (λ z h. ap (λ a. a .serial) (some-inj z x (sym h ∙ there)) ∙ e)
-      rows others entries (omega arith) (omega arith) fits
+    (λ j z h f. k .apart j i z x h there (f ∙ sym e))
+    (λ z h. ap (λ a. a .serial) (some-inj z x (sym h ∙ there)) ∙ e)
+    rows others entries (omega arith) (omega arith) fits

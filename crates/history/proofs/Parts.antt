@@ -55,13 +55,13 @@ pub laid : (t body : List ℕ) (from n p : ℕ) → n ≡ length t → from ≤ 
 laid t body from n p e h = ⊎-elim
     (λ lt. nth-left t _ p lt ∙ sym (orElse-some (nth t p) _ (nth-some t p lt)))
     (λ ge.
-      let i : p ≡ length t + (p - length t) = omega arith in
-      let j : (n - from) + (p - length t) ≡ p - from = omega arith in
-      let a : nth (t ++ drop (n - from) body) p ≡ nth body (p - from) =
-            ap (nth (t ++ drop (n - from) body)) i ∙ nth-right t (drop (n - from) body) (p - length t) ∙ nth-drop (n - from) body (p - length t) ∙ ap (nth body) j in
-      let b : nth t p ≡ None = nth-past t p ge in
-      let c : leb from p ≡ true = le-leb from p (omega arith) in
-      a ∙ sym (ap (λ o. orElse o (cond (leb from p) (nth body (p - from)) None)) b ∙ ap (λ o. cond o (nth body (p - from)) None) c))
+    let i : p ≡ length t + (p - length t) = omega arith in
+    let j : (n - from) + (p - length t) ≡ p - from = omega arith in
+    let a : nth (t ++ drop (n - from) body) p ≡ nth body (p - from) =
+    ap (nth (t ++ drop (n - from) body)) i ∙ nth-right t (drop (n - from) body) (p - length t) ∙ nth-drop (n - from) body (p - length t) ∙ ap (nth body) j in
+    let b : nth t p ≡ None = nth-past t p ge in
+    let c : leb from p ≡ true = le-leb from p (omega arith) in
+    a ∙ sym (ap (λ o. orElse o (cond (leb from p) (nth body (p - from)) None)) b ∙ ap (λ o. cond o (nth body (p - from)) None) c))
     (cases-lt p (length t))
 
 carries-past : (q : Part) (p : ℕ) → q .from + length (q .bytes) ≤ p → carries q p ≡ None
@@ -84,9 +84,9 @@ module _ (qs : List Part) (xs : List ℕ) (h : (p : ℕ) → nth xs p ≡ firstB
   below-is (suc n) =
       let a = below-is n in
       ⊎-elim
-        (λ lt. let z : _≡_ {A = ℕ} (cond (isSome (firstByte qs n)) 1 0) 1 = ap {B = ℕ} (λ b. cond b 1 0) (ap isSome (sym (h n)) ∙ nth-some xs n lt) in omega arith)
-        (λ ge. let z : _≡_ {A = ℕ} (cond (isSome (firstByte qs n)) 1 0) 0 = ap {B = ℕ} (λ b. cond b 1 0) (ap isSome (sym (h n) ∙ nth-past xs n ge)) in omega arith)
-        (cases-lt n (length xs))
+      (λ lt. let z : _≡_ {A = ℕ} (cond (isSome (firstByte qs n)) 1 0) 1 = ap {B = ℕ} (λ b. cond b 1 0) (ap isSome (sym (h n)) ∙ nth-some xs n lt) in omega arith)
+      (λ ge. let z : _≡_ {A = ℕ} (cond (isSome (firstByte qs n)) 1 0) 0 = ap {B = ℕ} (λ b. cond b 1 0) (ap isSome (sym (h n) ∙ nth-past xs n ge)) in omega arith)
+      (cases-lt n (length xs))
 
   pub places-is : places qs ≡ length xs
   places-is = let a = below-is (reach qs) in let b = within-reach in omega arith

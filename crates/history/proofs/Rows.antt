@@ -31,14 +31,14 @@ pub passes : (test : Option Live → Bool) (rs : List (Option Live)) (i : ℕ) �
 passes test [] i e = absurd (none-some i e)
 passes test (x ∷ xs) i e = ⊎-elim
     (λ b.
-      let y : indexOf test (x ∷ xs) ≡ Some 0 = ap (λ t. cond t (Some 0) (mapped suc (indexOf test xs))) b in
-      let z : i ≡ 0 = sym (some-inj {X = ℕ} 0 i (sym y ∙ e)) in
-      (omega arith, ap (λ k. test (row (x ∷ xs) k)) z ∙ b))
+    let y : indexOf test (x ∷ xs) ≡ Some 0 = ap (λ t. cond t (Some 0) (mapped suc (indexOf test xs))) b in
+    let z : i ≡ 0 = sym (some-inj {X = ℕ} 0 i (sym y ∙ e)) in
+    (omega arith, ap (λ k. test (row (x ∷ xs) k)) z ∙ b))
     (λ b.
-      let y : indexOf test (x ∷ xs) ≡ mapped suc (indexOf test xs) = ap (λ t. cond t (Some 0) (mapped suc (indexOf test xs))) b in
-      let m = mapped-some (indexOf test xs) i (sym y ∙ e) in
-      let h = passes test xs (m .0) (m .1) in
-      let z = m .2 in
-      let lt = h .0 in
-      (omega arith, ap (λ k. test (row (x ∷ xs) k)) z ∙ h .1))
+    let y : indexOf test (x ∷ xs) ≡ mapped suc (indexOf test xs) = ap (λ t. cond t (Some 0) (mapped suc (indexOf test xs))) b in
+    let m = mapped-some (indexOf test xs) i (sym y ∙ e) in
+    let h = passes test xs (m .0) (m .1) in
+    let z = m .2 in
+    let lt = h .0 in
+    (omega arith, ap (λ k. test (row (x ∷ xs) k)) z ∙ h .1))
     (cases-bool (test x))

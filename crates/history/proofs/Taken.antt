@@ -64,7 +64,7 @@ told-moves sets away b a e = e
 told-moves sets ready b a e = e
 
 module _ (sets : Settings) (clock tells : ℕ) (same : clock ≡ tells) (e : Entry) (x : Live) (slot : List ℕ) (r : Range) (body : List ℕ) (n : ℕ) (k : Keeps sets e x slot)
-  (range : wrongRange (x .total) r n ≡ false) (large : tooLarge sets r n ≡ false) (gap : ltb (x .received) (r .first) ≡ false) (came : length body ≤ n) where
+    (range : wrongRange (x .total) r n ≡ false) (large : tooLarge sets r n ≡ false) (gap : ltb (x .received) (r .first) ≡ false) (came : length body ≤ n) where
   abbrev part : Part
   part = record { from = r .first; bytes = body }
 
@@ -111,29 +111,31 @@ module _ (sets : Settings) (clock tells : ℕ) (same : clock ≡ tells) (e : Ent
 
   pub taken-keeps : (b : Bool) → Keeps sets (carried sets tells b e part (r .total)) (grown sets clock x r (length body) b) (slot ++ fresh x r body)
   taken-keeps true = record {
-      path = k .path;
-      total = refl;
-      state = state-moves sets (x .phase) count (r .total) ∙ ap (λ s. onceWhole sets s (eqb count (r .total))) (k .state) ∙ ap (λ c. onceWhole sets (e .standing) (eqb c (r .total))) count-after;
-      stamp = same;
-      bytes = bytes-after;
-      size = size-after;
-      count = count-after;
-      bound = bound-after;
-      unset = λ f. absurd (none-some (r .total) (sym f));
-      whole = λ ne. ⊎-elim
+    path = k .path;
+    total = refl;
+    state = state-moves sets (x .phase) count (r .total) ∙ ap (λ s. onceWhole sets s (eqb count (r .total))) (k .state) ∙ ap (λ c. onceWhole sets (e .standing) (eqb c (r .total))) count-after;
+    stamp = same;
+    bytes = bytes-after;
+    size = size-after;
+    count = count-after;
+    bound = bound-after;
+    unset = λ f. absurd (none-some (r .total) (sym f));
+    whole = λ ne. ⊎-elim
         (λ f. let z = eqb-true (places (e .parts ++ part ∷ [])) (r .total) f in ap Some (sym (count-after ∙ z)))
         had-all
         (whole-moves sets (e .standing) (eqb (places (e .parts ++ part ∷ [])) (r .total)) ne);
-      told = λ a f. k .told a (told-moves sets (e .standing) (eqb (places (e .parts ++ part ∷ [])) (r .total)) a f) }
+    told = λ a f. k .told a (told-moves sets (e .standing) (eqb (places (e .parts ++ part ∷ [])) (r .total)) a f);
+  }
   taken-keeps false = record {
-      path = k .path;
-      total = refl;
-      state = k .state;
-      stamp = k .stamp;
-      bytes = bytes-after;
-      size = size-after;
-      count = count-after;
-      bound = bound-after;
-      unset = λ f. absurd (none-some (r .total) (sym f));
-      whole = had-all;
-      told = k .told }
+    path = k .path;
+    total = refl;
+    state = k .state;
+    stamp = k .stamp;
+    bytes = bytes-after;
+    size = size-after;
+    count = count-after;
+    bound = bound-after;
+    unset = λ f. absurd (none-some (r .total) (sym f));
+    whole = had-all;
+    told = k .told;
+  }

@@ -39,7 +39,7 @@ keeps-row : (c : ℕ) (r : Option Live) (x : Live) → r ≡ Some x → leb 1209
 keeps-row c r x h f = ap (swept c) h ∙ ap (λ b. cond b None (Some x)) f
 
 module _ (sets : Settings) (old : ℕ → Option Entry) (n c d : ℕ) (same : c ≡ d) (rs vs : List (Option Live)) (held kept : ℕ → List ℕ) (k : Matched sets old n rs held)
-  (rows : vs ≡ map (swept c) rs) (others : (i : ℕ) → isExpired c (row rs i) ≡ false → kept i ≡ held i) where
+    (rows : vs ≡ map (swept c) rs) (others : (i : ℕ) → isExpired c (row rs i) ≡ false → kept i ≡ held i) where
   row-is : (i : ℕ) → row vs i ≡ swept c (row rs i)
   row-is i = ap (λ l. row l i) rows ∙ row-swept c rs i
 
@@ -66,17 +66,19 @@ module _ (sets : Settings) (old : ℕ → Option Entry) (n c d : ℕ) (same : c 
 
   swept-matched : Matched sets (λ q. struck d (old q)) n vs kept
   swept-matched = record {
-      size = ap length rows ∙ length-map rs (swept c) ∙ k .size;
-      each = each-row;
-      all = all-rows;
-      apart = λ i j x y f g e. k .apart i j x y (stays i x f .0) (stays j y g .0) e;
-      young = λ i x h. k .young i x (stays i x h .0) }
+    size = ap length rows ∙ length-map rs (swept c) ∙ k .size;
+    each = each-row;
+    all = all-rows;
+    apart = λ i j x y f g e. k .apart i j x y (stays i x f .0) (stays j y g .0) e;
+    young = λ i x h. k .young i x (stays i x h .0);
+  }
 
 pub tick-tells : (sets : Settings) (start : List ℕ → Option (List ℕ)) (l : Ledger) (w v : World) (reading ended : ℕ) → Tells sets start l w → Ticked w reading ended v → Tells sets start (afterTick l reading) v
 tick-tells sets start l w v reading ended t d =
     let e : max (w .clock) reading ≡ max (l .clock) reading = ap (λ c. max c reading) (t .clock) in
     record {
-    next = d .next ∙ t .next;
-    clock = d .clock ∙ e;
-    sessions = swept-matched sets (l .sessions) (l .next) (max (w .clock) reading) (max (l .clock) reading) e (w .rows) (v .rows) (w .store .held) (v .store .held) (t .sessions) (d .rows) (d .others);
-    catalog = kept-names sets start l w v t (d .names) }
+      next = d .next ∙ t .next;
+      clock = d .clock ∙ e;
+      sessions = swept-matched sets (l .sessions) (l .next) (max (w .clock) reading) (max (l .clock) reading) e (w .rows) (v .rows) (w .store .held) (v .store .held) (t .sessions) (d .rows) (d .others);
+      catalog = kept-names sets start l w v t (d .names);
+    }

@@ -17,6 +17,7 @@ use Rattle.packet.specs.declared.Fault.{Fault}
 use Rattle.packet.specs.declared.judging.Action.{Action}
 use Rattle.packet.specs.declared.judging.Action.the-variants.{Create, Ping, Fragment, Close, Cancel}
 use Rattle.packet.specs.declared.ranges.Range.{Range}
+use Rattle.session.specs.Steps as verdict
 use Rattle.session.specs.Steps.{Word}
 use Rattle.session.specs.declared.records.Settings.{Settings}
 
@@ -176,10 +177,15 @@ abbrev pub afterMessage : Settings → Ledger → ℕ → Result Request Fault �
 afterMessage sets l n (Ok q) = afterRequest sets l n q (q .action)
 afterMessage sets l n (Err e) = l
 
--- a yes taken, or a session that is refused
-abbrev pub approved : Entry → Entry
-approved e = record { path = e .path; parts = e .parts; total = e .total; standing = ready; approved = true; stamp = e .stamp }
+abbrev pub isYes : Word → Bool
+isYes (verdict.yes address) = true
+isYes (verdict.no code) = false
 
+-- an answer of number 0; a yes is then taken
+abbrev pub approved : Word → Entry → Entry
+approved word e = record { path = e .path; parts = e .parts; total = e .total; standing = ready; approved = isYes word || e .approved; stamp = e .stamp }
+
+-- a session that is refused receives again
 abbrev pub refused : Entry → Entry
 refused e = record { path = e .path; parts = e .parts; total = e .total; standing = receiving; approved = e .approved; stamp = e .stamp }
 
@@ -187,9 +193,9 @@ abbrev pub amending : Ledger → ℕ → (Entry → Entry) → Option Entry → 
 amending l serial f None = l
 amending l serial f (Some e) = written l serial (Some (f e))
 
-abbrev pub afterAnswer : Ledger → ℕ → ℕ → Ledger
-afterAnswer l n serial =
-    cond (eqb n 0) (amending l serial approved (l .sessions serial)) (cond (eqb n 20 || eqb n 21) (amending l serial refused (l .sessions serial)) l)
+abbrev pub afterAnswer : Ledger → ℕ → ℕ → Word → Ledger
+afterAnswer l n serial word =
+    cond (eqb n 0) (amending l serial (approved word) (l .sessions serial)) (cond (eqb n 20 || eqb n 21) (amending l serial refused (l .sessions serial)) l)
 
 -- sessions whose last message of number 0 is 14 days old are struck off
 abbrev pub struck : ℕ → Option Entry → Option Entry
@@ -206,7 +212,7 @@ afterTick l reading = record {
 
 abbrev pub afterCall : Settings → Ledger → ℕ → Call → Ledger
 afterCall sets l n (message page input) = afterMessage sets l n (packetOf input)
-afterCall sets l n (answer page serial word) = afterAnswer l n serial
+afterCall sets l n (answer page serial word) = afterAnswer l n serial word
 afterCall sets l n (tick reading) = afterTick l reading
 
 abbrev pub drawn : Settings → Ledger → List Event → Ledger
