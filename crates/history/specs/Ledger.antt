@@ -19,14 +19,8 @@ use Rattle.packet.specs.declared.judging.Action.the-variants.{Create, Ping, Fra
 use Rattle.packet.specs.declared.ranges.Range.{Range}
 use Rattle.session.specs.Steps as verdict
 use Rattle.session.specs.Steps.{Word}
+pub use Rattle.session.specs.Steps.{Call, message, answer, tick}
 use Rattle.session.specs.declared.records.Settings.{Settings}
-
--- a message has the length of its acknowledgement page and the input; an answer its page's length, the serial asked
--- about and the verdict; a tick the clock's reading
-pub data Call : Type 0 where
-  message : ℕ → List ℕ → Call
-  answer : ℕ → ℕ → Word → Call
-  tick : ℕ → Call
 
 -- a call and the number that it gave: for a tick, how many sessions it ended
 pub record Event : Type 0 where

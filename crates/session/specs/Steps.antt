@@ -149,3 +149,10 @@ pub record Started (sets : Settings) (m : Meaning) (w : World) : Type 0 where
   pub clock : w .clock ≡ 0
   pub emptied : (i : ℕ) → i < 16 → w .store .held i ≡ []
   pub names : (n : List ℕ) → w .store .catalog n ≡ m .catalog n
+
+-- the calls of an intake: a message has the length of its acknowledgement page and the input; an answer its page's length, the
+-- serial asked about and the verdict; a tick the clock's reading
+pub data Call : Type 0 where
+  message : ℕ → List ℕ → Call
+  answer : ℕ → ℕ → Word → Call
+  tick : ℕ → Call
