@@ -20,7 +20,7 @@ use Rattle.store.specs.Meaning.{Meaning}
 use Rattle.session.specs.Sessions.{Phase, receiving, Live, World, row}
 use Rattle.session.specs.Rules.{wrongRange, forbidden}
 use Rattle.session.specs.Plans.{stands}
-use Rattle.session.specs.Steps.{Word, yes, messageOutcome, answerOutcome, isAddress}
+use Rattle.session.specs.Steps.{Word, yes, messageOutcome, answerOutcome, isAddress, Started}
 use Rattle.session.specs.declared.records.Settings.{Settings}
 use Rattle.finishing.specs.Runs.{Call, message, answer, tick, Stepped, Runs}
 
@@ -153,6 +153,19 @@ FinishableUnder sets = (w : World) (i : ℕ) (x : Live) (t : ℕ) (cs : List Cal
 -- where uploads are on: where they are off, no session is ever opened
 abbrev pub Finishable : Type 0
 Finishable = (sets : Settings) → sets .uploads ≡ true → FinishableUnder sets
+
+-- what is kept in every world that an intake reaches makes each receiving session's row such a one
+abbrev pub GoodSince : Type 0
+GoodSince = (w : World) (i : ℕ) (x : Live) → row (w .rows) i ≡ Some x → x .phase ≡ receiving
+    → ((j k : ℕ) (y z : Live) → row (w .rows) j ≡ Some y → row (w .rows) k ≡ Some z → y .serial ≡ z .serial → j ≡ k)
+    → x .received ≡ length (w .store .held i)
+    → ((t : ℕ) → x .total ≡ Some t → x .received ≤ t) → (x .total ≡ None → x .received ≡ 0)
+    → Good w i x
+
+-- where a new intake came to a session, uploads are on
+abbrev pub UploadsOn : Type 0
+UploadsOn = (sets : Settings) (m : Meaning) (u w : World) (cs : List Call) (i : ℕ) (x : Live)
+    → Started sets m u → Runs sets u cs w → row (w .rows) i ≡ Some x → sets .uploads ≡ true
 
 -- a finishing list is a run of calls
 abbrev pub AreRuns : Type 0
