@@ -36,13 +36,14 @@ within None n a b = b refl
 within (Some t) n a b = a t refl
 
 pub good-since : GoodSince
-good-since w i x here open′ apart size bound unset = record {
-    within = inside (w .rows) i x here;
-    here = here;
-    only = λ k y e s. apart k i y x e here s;
-    receives = open′;
-    kept = sym size;
-    bounded = within (x .total) (x .received) bound unset }
+good-since w i x here receives apart size bound unset = record {
+  within = inside (w .rows) i x here;
+  here = here;
+  only = λ k y e s. apart k i y x e here s;
+  receives = receives;
+  kept = sym size;
+  bounded = within (x .total) (x .received) bound unset;
+}
 
 -- a message does nothing where uploads are off
 idle : (sets : Settings) (w : World) (q : Request) (u : World) (b : Bool) → Done sets w q (cond b ping (refuse UploadsOff)) u → u ≡ w
@@ -72,7 +73,7 @@ still sets w (message page input) u off e s =
     ap (λ (z : World). z .rows) (either (ltb page 1024) (u ≡ w) (ReadDone sets w (packetOf input) u) (read-idle sets w (packetOf input) u off) s) ∙ e
 still sets w (answer page serial word) u off e s =
     ap (λ (z : World). z .rows)
-      (either (ltb page 1024) (u ≡ w) (AskedDone w (indexOf (isAsked serial) (w .rows)) word u) (unasked w serial word u e) s) ∙ e
+    (either (ltb page 1024) (u ≡ w) (AskedDone w (indexOf (isAsked serial) (w .rows)) word u) (unasked w serial word u e) s) ∙ e
 still sets w (tick reading) u off e s = s .1 .rows ∙ ap (map (swept (max (w .clock) reading))) e
 
 quiet : (sets : Settings) (w : World) (cs : List Call) (v : World) → sets .uploads ≡ false → w .rows ≡ vacant → Runs sets w cs v → v .rows ≡ vacant
@@ -82,11 +83,11 @@ quiet sets w (c ∷ cs) v off e r = quiet sets (r .0) cs v off (still sets w c (
 none-there : (n i : ℕ) → row (replicate n None) i ≡ None
 none-there n i =
     ⊎-elim (λ h. getD-replicate n i None None h)
-      (λ h. getD-past (replicate n None) i None (subst (λ k. k ≤ i) (sym (length-replicate n None)) h))
-      (cases-lt i n)
+    (λ h. getD-past (replicate n None) i None (subst (λ k. k ≤ i) (sym (length-replicate n None)) h))
+    (cases-lt i n)
 
 pub uploads-on : UploadsOn
 uploads-on sets m u w cs i x s r e =
     ⊎-elim (λ on. on)
-      (λ off. absurd (none-is-not-some (row (w .rows) i) x (ap (λ rs. row rs i) (quiet sets u cs w off (s .rows) r) ∙ none-there 16 i) e))
-      (cases-bool (sets .uploads))
+    (λ off. absurd (none-is-not-some (row (w .rows) i) x (ap (λ rs. row rs i) (quiet sets u cs w off (s .rows) r) ∙ none-there 16 i) e))
+    (cases-bool (sets .uploads))

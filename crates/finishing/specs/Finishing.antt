@@ -89,21 +89,21 @@ pub record Closes (sets : Settings) (w : World) (i : ℕ) (x : Live) (page : ℕ
 pub data Sends (sets : Settings) (i : ℕ) (x : Live) (t : ℕ) : World → Bool → Bool → List Call → World → Type 0 where
   done : {w : World} {agreed : Bool} → (sets .approver ≡ true → agreed ≡ true) → Sends sets i x t w true agreed [] w
   fragment : {w u z : World} {ended agreed : Bool} {page : ℕ} {input : List ℕ} {cs : List Call}
-    → (f : Fits sets w i x t page input)
-    → Stepped sets w (message page input) u
-    → Sends sets i x t u (eqb (f .range .last + 1) t) agreed cs z
-    → Sends sets i x t w ended agreed (message page input ∷ cs) z
+      → (f : Fits sets w i x t page input)
+      → Stepped sets w (message page input) u
+      → Sends sets i x t u (eqb (f .range .last + 1) t) agreed cs z
+      → Sends sets i x t w ended agreed (message page input ∷ cs) z
   verdict : {w u z : World} {ended agreed : Bool} {page : ℕ} {word : Word} {cs : List Call}
-    → 1024 ≤ page
-    → Stepped sets w (answer page (x .serial) word) u
-    → Sends sets i x t u ended agreed cs z
-    → Sends sets i x t w ended agreed (answer page (x .serial) word ∷ cs) z
+      → 1024 ≤ page
+      → Stepped sets w (answer page (x .serial) word) u
+      → Sends sets i x t u ended agreed cs z
+      → Sends sets i x t w ended agreed (answer page (x .serial) word ∷ cs) z
   approved : {w u z : World} {ended agreed : Bool} {page : ℕ} {address : List ℕ} {cs : List Call}
-    → 1024 ≤ page
-    → answerOutcome w page (x .serial) (yes address) ≡ Done
-    → Stepped sets w (answer page (x .serial) (yes address)) u
-    → Sends sets i x t u ended true cs z
-    → Sends sets i x t w ended agreed (answer page (x .serial) (yes address) ∷ cs) z
+      → 1024 ≤ page
+      → answerOutcome w page (x .serial) (yes address) ≡ Done
+      → Stepped sets w (answer page (x .serial) (yes address)) u
+      → Sends sets i x t u ended true cs z
+      → Sends sets i x t w ended agreed (answer page (x .serial) (yes address) ∷ cs) z
 
 -- a finishing list of session x run from world w: its fragments, of t bytes in all, lead to z, and a close from there to v
 pub record Finishing (sets : Settings) (w : World) (i : ℕ) (x : Live) (t : ℕ) (cs : List Call) (z : World) (page : ℕ) (input : List ℕ) (v : World) : Type 0 where
