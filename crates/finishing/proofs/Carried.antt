@@ -24,12 +24,12 @@ module _ (input : List ℕ) (q : Request) (id : SessionId) (r : Range) (at : ℕ
   pub reaches : r .first ≤ p → p < r .first + length (q .body) → carriedBy (packetOf input) p ≡ Some (getD (q .body) (p - r .first) 0)
   reaches a b =
       carried ∙ cond-true (leb (r .first) p && ltb p (r .first + length (q .body))) (Some (getD (q .body) (p - r .first) 0)) None
-        (and-from (leb (r .first) p) (ltb p (r .first + length (q .body))) (le-leb (r .first) p a) (lt-ltb p (r .first + length (q .body)) b))
+      (and-from (leb (r .first) p) (ltb p (r .first + length (q .body))) (le-leb (r .first) p a) (lt-ltb p (r .first + length (q .body)) b))
 
   pub misses : r .first + length (q .body) ≤ p → carriedBy (packetOf input) p ≡ None
   misses a =
       carried ∙ cond-false (leb (r .first) p && ltb p (r .first + length (q .body))) (Some (getD (q .body) (p - r .first) 0)) None
-        (and-right (leb (r .first) p) (ltb p (r .first + length (q .body))) (le-ltb p (r .first + length (q .body)) a))
+      (and-right (leb (r .first) p) (ltb p (r .first + length (q .body))) (le-ltb p (r .first + length (q .body)) a))
 
 -- a byte past those that were held
 pub fresh-at : (held body : List ℕ) (n first p : ℕ) → length held ≡ n → first ≤ n → n ≤ p → getD (held ++ drop (n - first) body) p 0 ≡ getD body (p - first) 0

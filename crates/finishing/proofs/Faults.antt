@@ -30,7 +30,8 @@ right total r n e =
       forward = ltb-false (r .last) (r .first) (a .0);
       inside = leb-false (r .total) (r .last) (b .0);
       size = eqb-true n (r .last - r .first + 1) (not-false (eqb n (r .last - r .first + 1)) (c .0));
-      same = c .1 }
+      same = c .1;
+    }
 
 five : {X : Type 0} (a b c d e : Bool) (p q r s t u : X) → a ≡ false → b ≡ false → c ≡ false → d ≡ false → e ≡ false
     → cond a p (cond b q (cond c r (cond d s (cond e t u)))) ≡ u
@@ -42,12 +43,12 @@ pub no-fault : (sets : Settings) (x : Live) (r : Range) (at n room : ℕ) → is
     → n ≤ 32768 → r .total ≤ sets .maximum → r .first ≤ x .received → r .last + 1 ≤ x .received + room → fragmentFault sets x r at n room ≡ None
 no-fault sets x r at n room a w s m g f =
     five (isAway (x .phase)) (wrongRange (x .total) r n) (tooLarge sets r n) (ltb (x .received) (r .first)) (ltb (x .received + room) (r .last + 1))
-      (Some AtApprover) (Some (WrongRange at)) (Some TooLarge) (Some Gap) (Some StoreFull) None
-      a w (or-from (ltb 32768 n) (ltb (sets .maximum) (r .total)) (le-ltb 32768 n s) (le-ltb (sets .maximum) (r .total) m))
-      (le-ltb (x .received) (r .first) g) (le-ltb (x .received + room) (r .last + 1) f)
+    (Some AtApprover) (Some (WrongRange at)) (Some TooLarge) (Some Gap) (Some StoreFull) None
+    a w (or-from (ltb 32768 n) (ltb (sets .maximum) (r .total)) (le-ltb 32768 n s) (le-ltb (sets .maximum) (r .total) m))
+    (le-ltb (x .received) (r .first) g) (le-ltb (x .received + room) (r .last + 1) f)
 
 pub away-fault : (sets : Settings) (x : Live) (r : Range) (at n room : ℕ) → isAway (x .phase) ≡ true → fragmentFault sets x r at n room ≡ Some AtApprover
 away-fault sets x r at n room a =
     cond-true (isAway (x .phase)) (Some AtApprover)
-      (cond (wrongRange (x .total) r n) (Some (WrongRange at)) (cond (tooLarge sets r n) (Some TooLarge) (cond (ltb (x .received) (r .first)) (Some Gap) (cond (ltb (x .received + room) (r .last + 1)) (Some StoreFull) None))))
-      a
+    (cond (wrongRange (x .total) r n) (Some (WrongRange at)) (cond (tooLarge sets r n) (Some TooLarge) (cond (ltb (x .received) (r .first)) (Some Gap) (cond (ltb (x .received + room) (r .last + 1)) (Some StoreFull) None))))
+    a

@@ -63,30 +63,31 @@ module _ (sets : Settings) (i : ℕ) (a : Live) (t : ℕ) (w u : World) (ended a
   pub away-same : isAway (x .phase) ≡ true → u ≡ w
   away-same e =
       done-by sets w page input u (f .request) (refuse AtApprover) (f .wide) (f .read)
-        (plan ∙ ap (λ o. unless o (take i x (f .range))) (away-fault sets x (f .range) (f .at) (f .request .contentLength) (w .store .room i) e)) step
+      (plan ∙ ap (λ o. unless o (take i x (f .range))) (away-fault sets x (f .range) (f .at) (f .request .contentLength) (w .store .room i) e)) step
 
   pub holds-away : isAway (x .phase) ≡ true → Holds sets i (a .serial) (a .path) t u (eqb (f .range .last + 1) t) agreed x
   holds-away e =
       subst (λ z. Holds sets i (a .serial) (a .path) t z (eqb (f .range .last + 1) t) agreed x) (sym (away-same e))
-        (record {
-          lone = h .lone;
-          serial = h .serial;
-          path = h .path;
-          kept = h .kept;
-          bounded = h .bounded;
-          full = h .full;
-          room = h .room;
-          sized = λ _. h .full (away-left (x .phase) e) ∙ ap Some (away-whole e);
-          ends = λ _ _. away-left (x .phase) e;
-          unasked = h .unasked;
-          settled = h .settled })
+      (record {
+        lone = h .lone;
+        serial = h .serial;
+        path = h .path;
+        kept = h .kept;
+        bounded = h .bounded;
+        full = h .full;
+        room = h .room;
+        sized = λ _. h .full (away-left (x .phase) e) ∙ ap Some (away-whole e);
+        ends = λ _ _. away-left (x .phase) e;
+        unasked = h .unasked;
+        settled = h .settled;
+      })
 
   pub took : isAway (x .phase) ≡ false → Took sets w (f .request) i x (f .range) u
   took e =
       let m : f .range .total ≤ sets .maximum = subst (λ n. n ≤ sets .maximum) (sym (f .all)) limit in
       let g : f .range .last + 1 ≤ x .received + w .store .room i = (let p = inside-now in let q = h .room in omega arith) in
       done-by sets w page input u (f .request) (take i x (f .range)) (f .wide) (f .read)
-        (plan ∙ ap (λ o. unless o (take i x (f .range))) (no-fault sets x (f .range) (f .at) (f .request .contentLength) (w .store .room i) e right-total (f .small) m reach-now g)) step
+      (plan ∙ ap (λ o. unless o (take i x (f .range))) (no-fault sets x (f .range) (f .at) (f .request .contentLength) (w .store .room i) e right-total (f .small) m reach-now g)) step
 
   abbrev count : ℕ
   count = max (x .received) (f .range .first + length (f .request .body))
@@ -94,7 +95,7 @@ module _ (sets : Settings) (i : ℕ) (a : Live) (t : ℕ) (w u : World) (ended a
   phase-now : after sets w x (f .range) (f .request) .phase ≡ phaseAt sets (x .phase) count (f .range .total)
   phase-now =
       cond-true (isWhole (f .request)) (phaseAt sets (x .phase) count (f .range .total)) (x .phase)
-        (eq-eqb (length (f .request .body)) (f .request .contentLength) (f .whole))
+      (eq-eqb (length (f .request .body)) (f .request .contentLength) (f .whole))
 
   fresh-size : x .received + length (fresh x (f .range) (f .request .body)) ≡ count
   fresh-size = let p = length-drop (x .received - f .range .first) (f .request .body) in let q = reach-now in omega arith
@@ -110,7 +111,7 @@ module _ (sets : Settings) (i : ℕ) (a : Live) (t : ℕ) (w u : World) (ended a
       let fall = o .added .falls in
       let left-room = h .room in
       let held : length (w .store .held i ++ fresh x (f .range) (f .request .body)) ≡ count
-            = length-append (w .store .held i) (fresh x (f .range) (f .request .body)) ∙ ap (λ n. n + length (fresh x (f .range) (f .request .body))) (h .kept) ∙ size in
+      = length-append (w .store .held i) (fresh x (f .range) (f .request .body)) ∙ ap (λ n. n + length (fresh x (f .range) (f .request .body))) (h .kept) ∙ size in
       record {
         lone = lone-still w i x (after sets w x (f .range) (f .request)) u (h .lone) refl (o .written);
         serial = h .serial;
@@ -118,20 +119,21 @@ module _ (sets : Settings) (i : ℕ) (a : Live) (t : ℕ) (w u : World) (ended a
         kept = ap length (o .added .grown) ∙ held;
         bounded = omega arith;
         full = λ p. ap Some (⊎-elim
-          (λ k. let j : x .received ≡ t = just (x .total) (x .received) t (h .full k) same-now in omega arith)
-          (λ k. sym k)
-          (left-since sets (x .phase) count (f .range .total) (sym (ap isReceiving phase-now) ∙ p)));
+            (λ k. let j : x .received ≡ t = just (x .total) (x .received) t (h .full k) same-now in omega arith)
+            (λ k. sym k)
+            (left-since sets (x .phase) count (f .range .total) (sym (ap isReceiving phase-now) ∙ p)));
         room = omega arith;
         sized = λ _. ap Some all;
         ends = λ p n.
-          let j : f .range .last + 1 ≡ t = eqb-true (f .range .last + 1) t p in
-          let k : count ≡ f .range .total = omega arith in
-          ap isReceiving phase-now ∙ left sets (x .phase) count (f .range .total) k;
+            let j : f .range .last + 1 ≡ t = eqb-true (f .range .last + 1) t p in
+            let k : count ≡ f .range .total = omega arith in
+            ap isReceiving phase-now ∙ left sets (x .phase) count (f .range .total) k;
         unasked = λ n. ap isAway phase-now ∙ not-sent sets (x .phase) count (f .range .total) n (h .unasked n);
         settled = λ p.
-          let s = h .settled p in
-          let k = phase-now ∙ stays sets (x .phase) count (f .range .total) (s .0) in
-          (ap isReceiving k ∙ s .0, ap isAway k ∙ s .1) }
+            let s = h .settled p in
+            let k = phase-now ∙ stays sets (x .phase) count (f .range .total) (s .0) in
+            (ap isReceiving k ∙ s .0, ap isAway k ∙ s .1);
+      }
 
   -- the fragment that brings the last byte sends a receiving session to the approver, where that is told
   pub sent-away : x .phase ≡ receiving → sets .approver ≡ true → f .range .last + 1 ≡ t → isAway (after sets w x (f .range) (f .request) .phase) ≡ true

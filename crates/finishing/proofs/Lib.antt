@@ -10,3 +10,4 @@ pub mod Law
 pub mod Theorem
 pub mod Models
 pub mod Shortest
+pub mod Reached

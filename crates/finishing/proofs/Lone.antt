@@ -36,31 +36,32 @@ pub record Lone (w : World) (i : ℕ) (x : Live) : Type 0 where
 -- another record of the same serial in its place
 pub lone-still : (w : World) (i : ℕ) (x y : Live) (u : World) → Lone w i x → y .serial ≡ x .serial → Written w i (Some y) u → Lone u i y
 lone-still w i x y u l e p = record {
-    within = subst (λ n. i < n) (sym (ap length (p .rows) ∙ length-set (w .rows) i (Some y))) (l .within);
-    here = ap (λ q. row q i) (p .rows) ∙ getD-set-same (w .rows) i (Some y) None (l .within);
-    only = λ k z h s. ⊎-elim (λ q. q)
+  within = subst (λ n. i < n) (sym (ap length (p .rows) ∙ length-set (w .rows) i (Some y))) (l .within);
+  here = ap (λ q. row q i) (p .rows) ∙ getD-set-same (w .rows) i (Some y) None (l .within);
+  only = λ k z h s. ⊎-elim (λ q. q)
       (λ ne. l .only k z (sym (ap (λ q. row q k) (p .rows) ∙ getD-set-other (w .rows) i k (Some y) None ne) ∙ h) (s ∙ e))
-      (cases-eq k i) }
+      (cases-eq k i);
+}
 
 module _ (w : World) (i : ℕ) (x : Live) (l : Lone w i x) where
   pub found-row : (s : ℕ) (path : List ℕ) → x .serial ≡ s → x .path ≡ path → indexOf (isOf s path) (w .rows) ≡ Some i
   found-row s path e p =
       index-first (isOf s path) (w .rows) i (l .within) (ap (isOf s path) (l .here) ∙ is-of s path x e p)
-        (λ k h. not-of s path (row (w .rows) k) (λ y a b. let z : k ≡ i = l .only k y a (b ∙ sym e) in omega arith))
+      (λ k h. not-of s path (row (w .rows) k) (λ y a b. let z : k ≡ i = l .only k y a (b ∙ sym e) in omega arith))
 
   pub asked-row : (s : ℕ) → x .serial ≡ s → isAway (x .phase) ≡ true → indexOf (isAsked s) (w .rows) ≡ Some i
   asked-row s e a =
       index-first (isAsked s) (w .rows) i (l .within)
-        (ap (isAsked s) (l .here) ∙ and-from (eqb (x .serial) s) (isAway (x .phase)) (eq-eqb (x .serial) s e) a)
-        (λ k h. not-asked s (row (w .rows) k) (λ y b c. let z : k ≡ i = l .only k y b (c ∙ sym e) in omega arith))
+      (ap (isAsked s) (l .here) ∙ and-from (eqb (x .serial) s) (isAway (x .phase)) (eq-eqb (x .serial) s e) a)
+      (λ k h. not-asked s (row (w .rows) k) (λ y b c. let z : k ≡ i = l .only k y b (c ∙ sym e) in omega arith))
 
   pub unasked-row : (s : ℕ) → x .serial ≡ s → isAway (x .phase) ≡ false → indexOf (isAsked s) (w .rows) ≡ None
   unasked-row s e a =
       index-none (isAsked s) (w .rows)
-        (λ k. ⊎-elim
-          (λ q. ap (λ n. isAsked s (row (w .rows) n)) q ∙ ap (isAsked s) (l .here) ∙ and-right (eqb (x .serial) s) (isAway (x .phase)) a)
-          (λ ne. not-asked s (row (w .rows) k) (λ y b c. ne (l .only k y b (c ∙ sym e))))
-          (cases-eq k i))
+      (λ k. ⊎-elim
+      (λ q. ap (λ n. isAsked s (row (w .rows) n)) q ∙ ap (isAsked s) (l .here) ∙ and-right (eqb (x .serial) s) (isAway (x .phase)) a)
+      (λ ne. not-asked s (row (w .rows) k) (λ y b c. ne (l .only k y b (c ∙ sym e))))
+      (cases-eq k i))
 
   found-id : (sets : Settings) (id : SessionId) (path : List ℕ) → id .site ≡ sets .site → id .serial ≡ x .serial → path ≡ x .path → found sets w id path ≡ Some i
   found-id sets id path a b c =

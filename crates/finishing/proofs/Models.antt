@@ -27,15 +27,16 @@ addedTo s i xs = record {
 
 pub added-to : (s : Meaning) (i : ℕ) (xs : List ℕ) → length xs ≤ s .room i → Added s i xs (addedTo s i xs)
 added-to s i xs h = record {
-    grown = cond-true (eqb i i) (s .held i ++ xs) (s .held i) (eq-eqb i i refl);
-    falls =
+  grown = cond-true (eqb i i) (s .held i ++ xs) (s .held i) (eq-eqb i i refl);
+  falls =
       let e : cond (eqb i i) (s .room i - length xs) (s .room i) ≡ s .room i - length xs = cond-true (eqb i i) (s .room i - length xs) (s .room i) (eq-eqb i i refl) in
       ap (λ n. n + length xs) e ∙ omega arith;
-    others = λ k ne. cond-false (eqb k i) (s .held i ++ xs) (s .held k) (ne-eqb k i ne);
-    rooms = λ k ne.
+  others = λ k ne. cond-false (eqb k i) (s .held i ++ xs) (s .held k) (ne-eqb k i ne);
+  rooms = λ k ne.
       let e : cond (eqb k i) (s .room i - length xs) (s .room k) ≡ s .room k = cond-false (eqb k i) (s .room i - length xs) (s .room k) (ne-eqb k i ne) in
       omega arith;
-    names = λ n. refl }
+  names = λ n. refl;
+}
 
 abbrev pub publishedTo : Meaning → ℕ → List ℕ → Meaning
 publishedTo s i name = record {
@@ -47,13 +48,14 @@ publishedTo s i name = record {
 
 pub published-to : (s : Meaning) (i : ℕ) (name : List ℕ) → Published s i name (publishedTo s i name)
 published-to s i name = record {
-    stored = cond-true (sameBytes name name) (Some (s .held i)) (s .catalog name) (sameBytes-decides name name .1 refl);
-    emptied = cond-true (eqb i i) [] (s .held i) (eq-eqb i i refl);
-    others = λ k ne. cond-false (eqb k i) [] (s .held k) (ne-eqb k i ne);
-    names = λ n ne. ⊎-elim
+  stored = cond-true (sameBytes name name) (Some (s .held i)) (s .catalog name) (sameBytes-decides name name .1 refl);
+  emptied = cond-true (eqb i i) [] (s .held i) (eq-eqb i i refl);
+  others = λ k ne. cond-false (eqb k i) [] (s .held k) (ne-eqb k i ne);
+  names = λ n ne. ⊎-elim
       (λ e. absurd (ne (sameBytes-decides n name .0 e)))
       (λ e. cond-false (sameBytes n name) (Some (s .held i)) (s .catalog n) e)
-      (cases-bool (sameBytes n name)) }
+      (cases-bool (sameBytes n name));
+}
 
 -- row i replaced
 abbrev pub withRow : World → ℕ → Option Live → Meaning → World

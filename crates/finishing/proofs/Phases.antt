@@ -42,9 +42,9 @@ left-since sets (ready a) c t e = inl refl
 pub not-sent : (sets : Settings) (p : Phase) (c t : ℕ) → sets .approver ≡ false → isAway p ≡ false → isAway (phaseAt sets p c t) ≡ false
 not-sent sets receiving c t n e =
     ⊎-elim
-      (λ q. ap isAway (cond-true (eqb c t) (whole sets) receiving q) ∙ ap isAway (cond-false (sets .approver) away (ready []) n))
-      (λ q. ap isAway (cond-false (eqb c t) (whole sets) receiving q))
-      (cases-bool (eqb c t))
+    (λ q. ap isAway (cond-true (eqb c t) (whole sets) receiving q) ∙ ap isAway (cond-false (sets .approver) away (ready []) n))
+    (λ q. ap isAway (cond-false (eqb c t) (whole sets) receiving q))
+    (cases-bool (eqb c t))
 not-sent sets away c t n e = absurd (true≢false e)
 not-sent sets (ready a) c t n e = refl
 

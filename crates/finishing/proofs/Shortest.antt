@@ -33,13 +33,13 @@ step-by : (sets : Settings) (w : World) (page : ℕ) (input : List ℕ) (u : Wor
     → 1024 ≤ page → packetOf input ≡ Ok q → planOf sets w q ≡ p → Done sets w q p u → MessageDone sets w page input u
 step-by sets w page input u q p h e d m =
     subst (λ b. When b (u ≡ w) (ReadDone sets w (packetOf input) u)) (sym (le-ltb page 1024 h))
-      (subst (λ z. ReadDone sets w z u) (sym e) (subst (λ z. Done sets w q z u) (sym d) m))
+    (subst (λ z. ReadDone sets w z u) (sym e) (subst (λ z. Done sets w q z u) (sym d) m))
 
 rule-by : (w : World) (page serial : ℕ) (word : Word) (u : World) (o : Option ℕ)
     → 1024 ≤ page → indexOf (isAsked serial) (w .rows) ≡ o → AskedDone w o word u → AnswerDone w page serial word u
 rule-by w page serial word u o h e m =
     subst (λ b. When b (u ≡ w) (AskedDone w (indexOf (isAsked serial) (w .rows)) word u)) (sym (le-ltb page 1024 h))
-      (subst (λ z. AskedDone w z word u) (sym e) m)
+    (subst (λ z. AskedDone w z word u) (sym e) m)
 
 module _ (sets : Settings) (w : World) (i : ℕ) (x : Live) (t page : ℕ) (input : List ℕ)
     (up : sets .uploads ≡ true) (g : Good w i x) (limit : t ≤ sets .maximum) (room : t - x .received ≤ w .store .room i)
@@ -83,7 +83,7 @@ module _ (sets : Settings) (w : World) (i : ℕ) (x : Live) (t page : ℕ) (inpu
   step : Stepped sets w (message page input) carried
   step =
       step-by sets w page input carried (f .request) (take i x (f .range)) (f .wide) (f .read) take-plan
-        (record { written = with-row w i (Some sent) (carried .store); added = added-to (w .store) i (fresh x (f .range) (f .request .body)) fits-room })
+      (record { written = with-row w i (Some sent) (carried .store); added = added-to (w .store) i (fresh x (f .range) (f .request .body)) fits-room })
 
   holds : Holds sets i (x .serial) (x .path) t carried (eqb (f .range .last + 1) t) false sent
   holds = holds-taken sets i x t w carried false false x page input up limit start f step not-away
@@ -97,8 +97,8 @@ module _ (sets : Settings) (w : World) (i : ℕ) (x : Live) (t page : ℕ) (inpu
         → Closes sets z i x page2 input2 → Stepped sets z (message page2 input2) (withRow z i None (publishedTo (z .store) i (y .path)))
     closing z agreed y h k c =
         step-by sets z page2 input2 (withRow z i None (publishedTo (z .store) i (y .path))) (c .asks .request) (close i y) (c .asks .wide) (c .asks .read)
-          (close-plan sets i x t z agreed y page2 input2 z up h k c)
-          (record { written = with-row z i None (publishedTo (z .store) i (y .path)); published = published-to (z .store) i (y .path) })
+        (close-plan sets i x t z agreed y page2 input2 z up h k c)
+        (record { written = with-row z i None (publishedTo (z .store) i (y .path)); published = published-to (z .store) i (y .path) })
 
     plain : sets .approver ≡ false → Ran sets w i x t (message page input ∷ []) page2 input2
     plain off =
@@ -108,7 +108,8 @@ module _ (sets : Settings) (w : World) (i : ℕ) (x : Live) (t page : ℕ) (inpu
           before = carried;
           final = withRow carried i None (publishedTo (carried .store) i (sent .path));
           list = one-fragment sets w i x t page input carried page2 input2 (withRow carried i None (publishedTo (carried .store) i (sent .path)))
-            off limit room f e step c (closing carried false sent holds-whole k c) }
+              off limit room f e step c (closing carried false sent holds-whole k c);
+        }
 
     told : (page1 : ℕ) (address : List ℕ) → 1024 ≤ page1 → isAddress address ≡ true → sets .approver ≡ true
         → Ran sets w i x t (message page input ∷ answer page1 (x .serial) (yes address) ∷ []) page2 input2
@@ -117,8 +118,8 @@ module _ (sets : Settings) (w : World) (i : ℕ) (x : Live) (t page : ℕ) (inpu
         let y = ruled (wordPhase (yes address)) sent in
         let z : World = withRow carried i (Some y) (carried .store) in
         let ruling : Stepped sets carried (answer page1 (x .serial) (yes address)) z =
-              rule-by carried page1 (x .serial) (yes address) z (Some i) wide (asked-row carried i sent (holds .lone) (x .serial) refl away)
-                (record { session = sent; there = holds .lone .here; written = with-row carried i (Some y) (carried .store); same = refl }) in
+        rule-by carried page1 (x .serial) (yes address) z (Some i) wide (asked-row carried i sent (holds .lone) (x .serial) refl away)
+        (record { session = sent; there = holds .lone .here; written = with-row carried i (Some y) (carried .store); same = refl }) in
         let o = yes-taken sets i x t carried z true sent page1 address holds-whole wide ruling away good in
         let h = holds-approved sets i (x .serial) (x .path) t carried z true false sent page1 address holds-whole wide ruling o away in
         let c : Closes sets z i x page2 input2 = record { asks = asks; free = free; can = refl } in
@@ -127,15 +128,16 @@ module _ (sets : Settings) (w : World) (i : ℕ) (x : Live) (t page : ℕ) (inpu
           before = z;
           final = v;
           list = one-fragment-approved sets w i x t page input carried page1 address z page2 input2 v up g on limit room f e step wide good ruling c
-            (closing z true y h (λ _. refl) c) }
+              (closing z true y h (λ _. refl) c);
+        }
 
 pub can-run : CanRun
 can-run sets w i x t page input page1 address page2 input2 up g limit room f e wide good asks free =
     ⊎-elim
-      (λ on. subst (λ cs. Ran sets w i x t cs page2 input2)
-        (sym (cond-true (sets .approver) (message page input ∷ answer page1 (x .serial) (yes address) ∷ []) (message page input ∷ []) on))
-        (told sets w i x t page input up g limit room f e page2 input2 asks free page1 address wide good on))
-      (λ off. subst (λ cs. Ran sets w i x t cs page2 input2)
-        (sym (cond-false (sets .approver) (message page input ∷ answer page1 (x .serial) (yes address) ∷ []) (message page input ∷ []) off))
-        (plain sets w i x t page input up g limit room f e page2 input2 asks free off))
-      (cases-bool (sets .approver))
+    (λ on. subst (λ cs. Ran sets w i x t cs page2 input2)
+    (sym (cond-true (sets .approver) (message page input ∷ answer page1 (x .serial) (yes address) ∷ []) (message page input ∷ []) on))
+    (told sets w i x t page input up g limit room f e page2 input2 asks free page1 address wide good on))
+    (λ off. subst (λ cs. Ran sets w i x t cs page2 input2)
+    (sym (cond-false (sets .approver) (message page input ∷ answer page1 (x .serial) (yes address) ∷ []) (message page input ∷ []) off))
+    (plain sets w i x t page input up g limit room f e page2 input2 asks free off))
+    (cases-bool (sets .approver))

@@ -34,17 +34,18 @@ same-some o a b p q = cc
 -- at the start
 pub at-start : (sets : Settings) (w : World) (i : ℕ) (x : Live) (t : ℕ) → Good w i x → t - x .received ≤ w .store .room i → Holds sets i (x .serial) (x .path) t w false false x
 at-start sets w i x t g h = record {
-    lone = record { within = g .within; here = g .here; only = g .only };
-    serial = refl;
-    path = refl;
-    kept = g .kept;
-    bounded = g .bounded;
-    full = λ e. absurd (true≢false (sym (ap isReceiving (g .receives)) ∙ e));
-    room = omega arith;
-    sized = λ e. absurd (false≢true e);
-    ends = λ e. absurd (false≢true e);
-    unasked = λ e. ap isAway (g .receives);
-    settled = λ e. absurd (false≢true e) }
+  lone = record { within = g .within; here = g .here; only = g .only };
+  serial = refl;
+  path = refl;
+  kept = g .kept;
+  bounded = g .bounded;
+  full = λ e. absurd (true≢false (sym (ap isReceiving (g .receives)) ∙ e));
+  room = omega arith;
+  sized = λ e. absurd (false≢true e);
+  ends = λ e. absurd (false≢true e);
+  unasked = λ e. ap isAway (g .receives);
+  settled = λ e. absurd (false≢true e);
+}
 
 -- at the end
 module _ (sets : Settings) (i s : ℕ) (name : List ℕ) (t : ℕ) (z : World) (agreed : Bool) (y : Live) (h : Holds sets i s name t z true agreed y) (k : sets .approver ≡ true → agreed ≡ true) where

@@ -33,7 +33,7 @@ module _ (sets : Settings) (i : ℕ) (a : Live) (t : ℕ) (z : World) (agreed : 
       let r = is-ready sets i (a .serial) (a .path) t z agreed y h k in
       ready-close sets (y .phase) (stands z (y .path)) (z .store .publishable i (y .path)) (r .0) (r .1)
       ∙ cond-false (forbidden sets (stands z (y .path))) (Some DestinationStands) (cond (z .store .publishable i (y .path)) None (Some StoreFull))
-          (subst (λ n. forbidden sets (stands z n) ≡ false) (sym (h .path)) (c .free))
+      (subst (λ n. forbidden sets (stands z n) ≡ false) (sym (h .path)) (c .free))
       ∙ cond-true (z .store .publishable i (y .path)) None (Some StoreFull) (subst (λ n. z .store .publishable i n ≡ true) (sym (h .path)) (c .can))
 
   pub close-plan : planOf sets z (c .asks .request) ≡ close i y
@@ -54,10 +54,11 @@ finishable sets up w i x t cs z page input v g f =
       number = close-number sets i x t z (k .agreed) (k .session) page input v up (k .holds) (k .sure) (f .closes);
       bytes = z .store .held i;
       stored = subst (λ n. v .store .catalog n ≡ Some (z .store .held i)) (k .holds .path)
-        (close-done sets i x t z (k .agreed) (k .session) page input v up (k .holds) (k .sure) (f .closes) (f .closed) .published .stored);
+          (close-done sets i x t z (k .agreed) (k .session) page input v up (k .holds) (k .sure) (f .closes) (f .closed) .published .stored);
       size = k .holds .kept ∙ is-whole sets i (x .serial) (x .path) t z (k .agreed) (k .session) (k .holds) (k .sure);
       begins = k .begins;
-      follows = k .follows }
+      follows = k .follows;
+    }
 
 module _ (sets : Settings) (i : ℕ) (x : Live) (t : ℕ) (rest : List Call) (v : World) where
   sends-run : {w : World} {ended agreed : Bool} {cs : List Call} {z : World} → Sends sets i x t w ended agreed cs z → Runs sets z rest v → Runs sets w (cs ++ rest) v
@@ -75,9 +76,10 @@ one-fragment sets w i x t page input z page2 input2 v off limit room f e step c 
       limit = limit;
       room = room;
       sends = fragment f step
-        (subst (λ b. Sends sets i x t z b false [] z) (sym (eq-eqb (f .range .last + 1) t e)) (done (λ on. absurd (false≢true (sym off ∙ on)))));
+          (subst (λ b. Sends sets i x t z b false [] z) (sym (eq-eqb (f .range .last + 1) t e)) (done (λ on. absurd (false≢true (sym off ∙ on)))));
       closes = c;
-      closed = closed }
+      closed = closed;
+    }
 
 -- a yes with a good address is taken by a session at the approver
 pub yes-taken : (sets : Settings) (i : ℕ) (x : Live) (t : ℕ) (u z : World) (ended : Bool) (y : Live) (page : ℕ) (address : List ℕ)
@@ -99,6 +101,7 @@ one-fragment-approved sets w i x t page input u page1 address z page2 input2 v u
       limit = limit;
       room = room;
       sends = fragment f step (approved wide o step1
-        (subst (λ b. Sends sets i x t z b true [] z) (sym (eq-eqb (f .range .last + 1) t e)) (done (λ _. refl))));
+          (subst (λ b. Sends sets i x t z b true [] z) (sym (eq-eqb (f .range .last + 1) t e)) (done (λ _. refl))));
       closes = c;
-      closed = closed }
+      closed = closed;
+    }

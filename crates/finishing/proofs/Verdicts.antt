@@ -31,9 +31,9 @@ none-is-not-done e = let z : _≡_ {A = ℕ} 0 1 = cc in omega arith
 pub taken-yes : (address : List ℕ) → wordOutcome (yes address) ≡ Done → wordPhase (yes address) ≡ ready address
 taken-yes address e =
     ⊎-elim
-      (λ q. cond-true (isAddress address) (ready address) receiving q)
-      (λ q. absurd (bad-is-not-done (sym (cond-false (isAddress address) Done BadReplyAddress q) ∙ e)))
-      (cases-bool (isAddress address))
+    (λ q. cond-true (isAddress address) (ready address) receiving q)
+    (λ q. absurd (bad-is-not-done (sym (cond-false (isAddress address) Done BadReplyAddress q) ∙ e)))
+    (cases-bool (isAddress address))
 
 module _ (sets : Settings) (i s : ℕ) (name : List ℕ) (t : ℕ) (w u : World) (ended agreed : Bool) (x : Live) (page : ℕ) (word : Word)
     (h : Holds sets i s name t w ended agreed x) (wide : 1024 ≤ page) (step : Stepped sets w (answer page s word) u) where
@@ -62,7 +62,8 @@ module _ (sets : Settings) (i s : ℕ) (name : List ℕ) (t : ℕ) (w u : World)
         sized = h .sized;
         ends = λ _ n. absurd (true≢false (sym e ∙ h .unasked n));
         unasked = λ n. absurd (true≢false (sym e ∙ h .unasked n));
-        settled = k }
+        settled = k;
+      }
 
   -- without a yes before it, or with one, which then is the last word
   pub holds-verdict : isAway (x .phase) ≡ true → Holds sets i s name t u ended agreed (ruled (wordPhase word) x)

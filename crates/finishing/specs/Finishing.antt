@@ -20,7 +20,7 @@ use Rattle.store.specs.Meaning.{Meaning}
 use Rattle.session.specs.Sessions.{Phase, receiving, Live, World, row}
 use Rattle.session.specs.Rules.{wrongRange, forbidden}
 use Rattle.session.specs.Plans.{stands}
-use Rattle.session.specs.Steps.{Word, yes, messageOutcome, answerOutcome, isAddress}
+use Rattle.session.specs.Steps.{Word, yes, messageOutcome, answerOutcome, isAddress, Started}
 use Rattle.session.specs.declared.records.Settings.{Settings}
 use Rattle.finishing.specs.Runs.{Call, message, answer, tick, Stepped, Runs}
 
@@ -89,21 +89,21 @@ pub record Closes (sets : Settings) (w : World) (i : ℕ) (x : Live) (page : ℕ
 pub data Sends (sets : Settings) (i : ℕ) (x : Live) (t : ℕ) : World → Bool → Bool → List Call → World → Type 0 where
   done : {w : World} {agreed : Bool} → (sets .approver ≡ true → agreed ≡ true) → Sends sets i x t w true agreed [] w
   fragment : {w u z : World} {ended agreed : Bool} {page : ℕ} {input : List ℕ} {cs : List Call}
-    → (f : Fits sets w i x t page input)
-    → Stepped sets w (message page input) u
-    → Sends sets i x t u (eqb (f .range .last + 1) t) agreed cs z
-    → Sends sets i x t w ended agreed (message page input ∷ cs) z
+      → (f : Fits sets w i x t page input)
+      → Stepped sets w (message page input) u
+      → Sends sets i x t u (eqb (f .range .last + 1) t) agreed cs z
+      → Sends sets i x t w ended agreed (message page input ∷ cs) z
   verdict : {w u z : World} {ended agreed : Bool} {page : ℕ} {word : Word} {cs : List Call}
-    → 1024 ≤ page
-    → Stepped sets w (answer page (x .serial) word) u
-    → Sends sets i x t u ended agreed cs z
-    → Sends sets i x t w ended agreed (answer page (x .serial) word ∷ cs) z
+      → 1024 ≤ page
+      → Stepped sets w (answer page (x .serial) word) u
+      → Sends sets i x t u ended agreed cs z
+      → Sends sets i x t w ended agreed (answer page (x .serial) word ∷ cs) z
   approved : {w u z : World} {ended agreed : Bool} {page : ℕ} {address : List ℕ} {cs : List Call}
-    → 1024 ≤ page
-    → answerOutcome w page (x .serial) (yes address) ≡ Done
-    → Stepped sets w (answer page (x .serial) (yes address)) u
-    → Sends sets i x t u ended true cs z
-    → Sends sets i x t w ended agreed (answer page (x .serial) (yes address) ∷ cs) z
+      → 1024 ≤ page
+      → answerOutcome w page (x .serial) (yes address) ≡ Done
+      → Stepped sets w (answer page (x .serial) (yes address)) u
+      → Sends sets i x t u ended true cs z
+      → Sends sets i x t w ended agreed (answer page (x .serial) (yes address) ∷ cs) z
 
 -- a finishing list of session x run from world w: its fragments, of t bytes in all, lead to z, and a close from there to v
 pub record Finishing (sets : Settings) (w : World) (i : ℕ) (x : Live) (t : ℕ) (cs : List Call) (z : World) (page : ℕ) (input : List ℕ) (v : World) : Type 0 where
@@ -153,6 +153,19 @@ FinishableUnder sets = (w : World) (i : ℕ) (x : Live) (t : ℕ) (cs : List Cal
 -- where uploads are on: where they are off, no session is ever opened
 abbrev pub Finishable : Type 0
 Finishable = (sets : Settings) → sets .uploads ≡ true → FinishableUnder sets
+
+-- what is kept in every world that an intake reaches makes each receiving session's row such a one
+abbrev pub GoodSince : Type 0
+GoodSince = (w : World) (i : ℕ) (x : Live) → row (w .rows) i ≡ Some x → x .phase ≡ receiving
+    → ((j k : ℕ) (y z : Live) → row (w .rows) j ≡ Some y → row (w .rows) k ≡ Some z → y .serial ≡ z .serial → j ≡ k)
+    → x .received ≡ length (w .store .held i)
+    → ((t : ℕ) → x .total ≡ Some t → x .received ≤ t) → (x .total ≡ None → x .received ≡ 0)
+    → Good w i x
+
+-- where a new intake came to a session, uploads are on
+abbrev pub UploadsOn : Type 0
+UploadsOn = (sets : Settings) (m : Meaning) (u w : World) (cs : List Call) (i : ℕ) (x : Live)
+    → Started sets m u → Runs sets u cs w → row (w .rows) i ≡ Some x → sets .uploads ≡ true
 
 -- a finishing list is a run of calls
 abbrev pub AreRuns : Type 0
