@@ -21,6 +21,7 @@ use crate::table::PAGE;
 use crate::table::Table;
 use crate::transfer::read;
 use crate::transfer::write;
+use outcome::Outcome;
 use store::Refusal;
 use store::Store;
 
@@ -34,6 +35,15 @@ const NAMES: usize = 32;
 #[derive(Drop)]
 pub struct BadRegion {
     pub region: Vec<u8>,
+}
+
+impl BadRegion {
+    // What making such a store comes to: a broken setting.
+    pub fn outcome(&self) -> Outcome
+        ensures { λ r. ⌜ r ≡ Outcome.BadSetting ⌝ }
+    {
+        Outcome::BadSetting
+    }
 }
 
 fn is_name(name: &[u8]) -> bool

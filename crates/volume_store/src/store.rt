@@ -13,6 +13,7 @@ ghost use mathlib.Core.Bool.{true, _&&_};
 ghost use mathlib.Core.List.{List, _++_};
 ghost use mathlib.Core.Path.{_≡_};
 use crate::state::VolumeStore;
+use outcome::Outcome;
 use store::Refusal;
 use store::Store;
 use volume::Span;
@@ -30,6 +31,15 @@ const TRAILER: usize = 16;
 #[derive(Drop)]
 pub struct BadRegion {
     pub region: Vec<u8>,
+}
+
+impl BadRegion {
+    // What making such a store comes to: a broken setting.
+    pub fn outcome(&self) -> Outcome
+        ensures { λ r. ⌜ r ≡ Outcome.BadSetting ⌝ }
+    {
+        Outcome::BadSetting
+    }
 }
 
 // Whether 16 slots and the used bytes fit a region of that length.
