@@ -8,7 +8,7 @@ pub struct Case {
     pub place: usize,
 }
 
-pub static GOOD: [Case; 14] = [
+pub static GOOD: [Case; 15] = [
     Case {
         name: "create, first example",
         input: b"BITS_POST /upload/2000mb-rfc2119.txt HTTP/1.1\r\nAccept: */*\r\nBITS-Packet-Type: Create-Session\r\nBITS-Supported-Protocols: {7df0354d-249b-430f-820d-3d2a9bef4931}\r\nContent-Name: rfc2119.txt\r\nUser-Agent: Microsoft BITS/6.7\r\nHost: frankcao8\r\nContent-Length: 0\r\nConnection: Keep-Alive\r\n\r\n",
@@ -30,6 +30,12 @@ pub static GOOD: [Case; 14] = [
     Case {
         name: "close, first example",
         input: b"BITS_POST /upload/2000mb-rfc2119.txt HTTP/1.1\r\nAccept: */*\r\nBITS-Packet-Type: Close-Session\r\nBITS-Session-Id: {A0FF5911-4144-45B3-BF27-27AFC8EC8A67}\r\nContent-Name: rfc2119.txt\r\nUser-Agent: Microsoft BITS/6.7\r\nHost: frankcao8\r\nContent-Length: 0\r\nConnection: Keep-Alive\r\n\r\n",
+        number: 0,
+        place: 0,
+    },
+    Case {
+        name: "create, second example",
+        input: b"BITS_POST /upload-ref-isapi-WebFarm/2100mb-rfc2119.txt HTTP/1.1\r\nAccept: */*\r\nBITS-Packet-Type: Create-Session\r\nBITS-Supported-Protocols: {7df0354d-249b-430f-820d-3d2a9bef4931}\r\nContent-Name: rfc2119.txt\r\nUser-Agent: Microsoft BITS/6.7\r\nHost: frankcao8\r\nContent-Length: 0\r\nConnection: Keep-Alive\r\n\r\n",
         number: 0,
         place: 0,
     },
