@@ -38,34 +38,34 @@ below s i n lt few ds e =
 digit-is : (b : ℕ) → 48 ≤ b → b ≤ 57 → digit_value b ≡ b - 48
 digit-is b h k = grind (arith, nat_tests)
 
-pub returns-then-is-empty : goal.returns-then-is-empty
-returns-then-is-empty c = no_number c.args.s.now (λ t.
+pub returns-then-is_empty : goal.returns-then-is_empty
+returns-then-is_empty c = no_number c.args.s.now (λ t.
     let p = parts c.args.s.now t in
-    elim c.then-is-empty.either [
-      | inl e ↦ omega (arith, eqb-true (length c.args.s.now) 0 (sym c.is-empty.ensures ∙ e))
+    elim c.then-is_empty.either [
+      | inl e ↦ omega (arith, eqb-true (length c.args.s.now) 0 (sym c.is_empty.ensures ∙ e))
       | inr e ↦ omega (arith, e.1)
     ])
 
-pub returns-then-not-is-ascii-digit : goal.returns-then-not-is-ascii-digit
-returns-then-not-is-ascii-digit c = no_number c.args.s.now (λ t.
+pub returns-then-not-is_ascii_digit : goal.returns-then-not-is_ascii_digit
+returns-then-not-is_ascii_digit c = no_number c.args.s.now (λ t.
     let b = get_or c.args.s.now c.loop-b.b-index 0 in
     let d = digit_at c.args.s.now c.loop-b.b-index (own.to _ (parts c.args.s.now t).2) c.loop-b-test.true in
-    both_ways _ (sym c.if-not-is-ascii-digit.ensures.value) (and_from (leb 48 b) (leb b 57) (le-leb 48 b d.0) (le-leb b 57 d.1)))
+    both_ways _ (sym c.if-not-is_ascii_digit.ensures.value) (and_from (leb 48 b) (leb b 57) (le-leb 48 b d.0) (le-leb b 57 d.1)))
 
-small : (c : goal.Else-not-is-ascii-digit) → c.loop-b.n < 10 ^ 18
-small c = below c.args.s.now c.loop-b.b-index c.loop-b.n c.loop-b-test.true c.if-s-gt-MOST-DIGITS.false c.loop-b.invariant.0 c.loop-b.invariant.1
+small : (c : goal.Else-not-is_ascii_digit) → c.loop-b.n < 10 ^ 18
+small c = below c.args.s.now c.loop-b.b-index c.loop-b.n c.loop-b-test.true c.if-s-gt-MOST_DIGITS.false c.loop-b.invariant.0 c.loop-b.invariant.1
 
-pub overflow-mul-n : goal.overflow-mul-n
-overflow-mul-n c = omega (arith, small c)
+pub overflow_mul-n : goal.overflow_mul-n
+overflow_mul-n c = omega (arith, small c)
 
-pub overflow-add-n : goal.overflow-add-n
-overflow-add-n c = omega (arith, below c.args.s.now c.loop-b.b-index c.loop-b.n c.loop-b-test.true c.if-s-gt-MOST-DIGITS.false c.loop-b.invariant.0 c.loop-b.invariant.1, c.if-not-is-ascii-digit.ensures.cases)
+pub overflow_add-n : goal.overflow_add-n
+overflow_add-n c = omega (arith, below c.args.s.now c.loop-b.b-index c.loop-b.n c.loop-b-test.true c.if-s-gt-MOST_DIGITS.false c.loop-b.invariant.0 c.loop-b.invariant.1, c.if-not-is_ascii_digit.ensures.cases)
 
 pub loop-b-preserved : goal.loop-b-preserved
 loop-b-preserved c =
     let s = c.args.s.now in
     let i = c.loop-b.b-index in
-    let h = c.if-not-is-ascii-digit.ensures.cases in
+    let h = c.if-not-is_ascii_digit.ensures.cases in
     let d = digit-is (get_or s i 0) h.0 h.1 in
     let v = digits_value_more 10 s i c.loop-b-test.true in
     (digits_more 10 s i c.loop-b-test.true c.loop-b.invariant.0 (omega (arith, d, h)), omega (arith, d, v, c.loop-b.invariant.1))
@@ -74,5 +74,5 @@ pub returns : goal.returns
 returns c =
     let s = c.args.s.now in
     let all = take_all c.loop-b.b-index s c.loop-b-test.false in
-    let some : 1 ≤ length s = omega (arith, eqb-false (length s) 0 (sym c.if-is-empty.ensures)) in
-    ap Some (c.loop-b.invariant.1 ∙ ap (digits_value 10) all) ∙ number s some c.if-s-gt-MOST-DIGITS.false (subst (AllDigits 10) all c.loop-b.invariant.0)
+    let some : 1 ≤ length s = omega (arith, eqb-false (length s) 0 (sym c.if-is_empty.ensures)) in
+    ap Some (c.loop-b.invariant.1 ∙ ap (digits_value 10) all) ∙ number s some c.if-s-gt-MOST_DIGITS.false (subst (AllDigits 10) all c.loop-b.invariant.0)

@@ -4,4 +4,4 @@ use Rattle.text.proofs.trim.Goals as goal
 
 pub returns : goal.returns
 unfolding trimmed
-returns c = c.trim-end.ensures ∙ ap trim_end c.trim-front.ensures
+returns c = c.trim_end.ensures ∙ ap trim_end c.trim_front.ensures
