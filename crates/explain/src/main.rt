@@ -1,4 +1,6 @@
 // Says what a request on standard input reads as, or why it is refused and where.
+#![tactic(auto)]
+
 ghost use Rattle.std.specs.Prelude.{◌≡◌, ◌≤◌, length};
 ghost use Rattle.explain.specs.Shown.{printable};
 

@@ -1,4 +1,6 @@
 // Runs tables of requests, whole and damaged, and compares the number and the place that each gives.
+#![tactic(auto)]
+
 ghost use Rattle.std.specs.Prelude.{◌≡◌, MatchResult};
 ghost use Rattle.packet.specs.Faults.{number_of, place_of};
 ghost use Rattle.packet.specs.Packets.{packet_of};
