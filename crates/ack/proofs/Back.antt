@@ -1,5 +1,5 @@
 -- Reading an acknowledgement's bytes again. Assumes nothing.
-use Rattle.std.proofs.Common.{◌≡◌, ℕ, ◌+◌, ◌^◌, ◌<◌, ◌≤◌, Bool, true, false, cond, not, ◌&&◌, ◌||◌, eqb, List, [], ◌∷◌, ◌++◌, length, take, is_some, IfSome, Some, None, codes, decimal, Option, unwrap_or, sym, refl, ap, ◌∙◌, subst, inl, inr, append_assoc, arith, lit<, lit≤}
+use Rattle.std.proofs.Common.{◌≡◌, ℕ, ◌<◌, ◌≤◌, Bool, true, false, cond, not, ◌&&◌, eqb, List, [], ◌∷◌, ◌++◌, is_some, IfSome, Some, None, codes, decimal, Option, unwrap_or, sym, refl, ap, ◌∙◌, inl, inr, append_assoc, arith, lit<, lit≤}
 use Rattle.std.proofs.lemmas.Fmt.{decimal_is_IsNumeral}
 use Rattle.std.proofs.lemmas.Bool.{and_from, and_parts, cases_Bool, cond-true, cond-false, false≢true, not-true}
 use Rattle.std.proofs.lemmas.Bool.Decides.{nat_tests}
@@ -8,18 +8,18 @@ use Rattle.std.specs.Str.Parse.{AllDigits, digits_value}
 use Rattle.std.specs.Char.{digit_value}
 use Rattle.std.specs.Fmt.{digits}
 use Rattle.ids.proofs.Texts.{digits-hexes, id-again, value-hexes}
-use Rattle.ids.specs.Ids.{filled, hexes, id_of, id_text, InRange, serial_shape, site_shape}
+use Rattle.ids.specs.Ids.{filled, hexes, id_text, serial_shape, site_shape}
 use Rattle.ids.specs.declared.SessionId.{SessionId}
-use Rattle.outcome.specs.Outcomes.{context_of, number_of, phrase_of}
+use Rattle.outcome.specs.Outcomes.{context_of}
 use Rattle.outcome.specs.declared.Context.{Context}
 use Rattle.outcome.specs.declared.Context.TheVariants as context
 use Rattle.outcome.specs.declared.Refusal.{Refusal}
 use Rattle.outcome.specs.declared.Status.{Status}
 use Rattle.outcome.specs.declared.Status.TheVariants as status
-use Rattle.reply.specs.Visible.{are_visible, IsAddress, is_visible}
+use Rattle.reply.specs.Visible.{are_visible, is_visible}
 use Rattle.ack.specs.Told.{Ack, KnownId, KnownReceived, KnownRefusal, status_of, Tellable}
 use Rattle.ack.specs.Text.{ack_lines, ack_text, address_lines, ended, error_lines, id_lines, only_if, range_lines, status_line}
-use Rattle.ack.specs.Back.{after, context_numbered, lines_of, onto, or_else, read_lines, Sound, refusal_in, status_in, status_numbered, then_id, value_in}
+use Rattle.ack.specs.Back.{after, context_numbered, lines_of, onto, or_else, read_lines, Sound, refusal_in, status_in, then_id, value_in}
 use Rattle.ack.proofs.Long.{text-long}
 
 -- lines without CR and LF

@@ -1,5 +1,5 @@
 -- How long an acknowledgement can be. Assumes nothing.
-use Rattle.std.proofs.Common.{◌≡◌, ℕ, ◌+◌, ◌^◌, ◌<◌, ◌≤◌, Bool, true, false, cond, List, [], ◌∷◌, ◌++◌, length, drop, IfSome, Some, None, codes, decimal, Option, sym, refl, ap, ◌∙◌, subst, arith, lit≤, length-append}
+use Rattle.std.proofs.Common.{◌≡◌, ℕ, ◌+◌, ◌≤◌, Bool, true, false, List, [], ◌∷◌, ◌++◌, length, drop, IfSome, Some, None, codes, decimal, Option, sym, ap, ◌∙◌, subst, arith, lit≤, length-append}
 use Rattle.page.proofs.Pages.{puts-long, puts_whole}
 use Rattle.page.specs.Page.{Puts}
 use Rattle.std.proofs.lemmas.Fmt.{length-decimal-le}

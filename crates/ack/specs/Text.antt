@@ -1,5 +1,5 @@
 -- The bytes of an acknowledgement. Assumes nothing.
-use Rattle.std.specs.Prelude.{ℕ, Bool, true, false, cond, List, [], ◌∷◌, ◌++◌, Some, None, codes, decimal, Option}
+use Rattle.std.specs.Prelude.{ℕ, Bool, cond, List, [], ◌∷◌, ◌++◌, Some, None, codes, decimal, Option}
 use Rattle.ids.specs.Ids.{hexes, id_text}
 use Rattle.ids.specs.declared.SessionId.{SessionId}
 use Rattle.outcome.specs.Outcomes.{context_of, number_of, phrase_of}

@@ -1,4 +1,6 @@
 // Acknowledgements: which lines the outcome of a call asks for, and every byte of them.
+#![tactic(auto)]
+
 ghost use Rattle.std.specs.Prelude.{◌≡◌, ◌<◌, ◌≤◌, ◌++◌, length, drop, IfSome, IfOk, Ok, Err};
 ghost use Rattle.page.specs.Page.{Puts};
 ghost use Rattle.ack.specs.Back.{Sound};

@@ -1,4 +1,5 @@
 // Prints for each number the acknowledgement that it gets, to hold beside what a sender shows.
+#![tactic(auto)]
 
 mod sheet;
 

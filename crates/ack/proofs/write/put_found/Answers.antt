@@ -14,6 +14,6 @@ returns-in-None c = record {
 
 pub returns-in-Some : goal.returns-in-Some
 returns-in-Some c = record {
-  puts = puts-as (sym (ap (λ f. ended (found_lines f)) c.in-Some.is)) c.put-progress.ensures.puts;
-  known = subst (λ f. KnownReceived (received_of f) × IsAddress (reply_of f)) (sym c.in-Some.is) c.put-progress.ensures.known;
+  puts = puts-as (sym (ap (λ f. ended (found_lines f)) c.in-Some.is)) c.put_progress.ensures.puts;
+  known = subst (λ f. KnownReceived (received_of f) × IsAddress (reply_of f)) (sym c.in-Some.is) c.put_progress.ensures.known;
 }

@@ -4,6 +4,6 @@ use Rattle.ack.proofs.write.put_progress.Goals as goal
 
 pub returns : goal.returns
 returns c = record {
-  puts = c.put-at.ensures then c.put-decimal-at.ensures then c.put-at-2.ensures then c.put-stage.ensures.puts;
-  known = (omega arith, c.put-stage.ensures.known);
+  puts = c.put-at.ensures then c.put_decimal-at.ensures then c.put-at-2.ensures then c.put_stage.ensures.puts;
+  known = (omega arith, c.put_stage.ensures.known);
 }

@@ -4,14 +4,14 @@ use Rattle.ack.specs.Told.{KnownId}
 use Rattle.ack.specs.Text.{ended, id_lines}
 use Rattle.ack.proofs.write.put_session.Goals as goal
 
-pub returns-in-default : goal.returns-in-default
-returns-in-default c = record {
-  puts = puts-as (sym (ap (λ i. ended (id_lines i)) c.in-default.is)) (puts_none c.args.page.now c.args.at);
-  known = subst KnownId (sym c.in-default.is) tt;
+pub returns-in_default : goal.returns-in_default
+returns-in_default c = record {
+  puts = puts-as (sym (ap (λ i. ended (id_lines i)) c.in_default.is)) (puts_none c.args.page.now c.args.at);
+  known = subst KnownId (sym c.in_default.is) tt;
 }
 
 pub returns : goal.returns
 returns c = record {
-  puts = puts-as (sym (ap (λ i. ended (id_lines i)) c.in-Some.is)) (c.put-at.ensures then c.put-id-at.ensures then c.put.ensures);
+  puts = puts-as (sym (ap (λ i. ended (id_lines i)) c.in-Some.is)) (c.put-at.ensures then c.put_id-at.ensures then c.put.ensures);
   known = subst KnownId (sym c.in-Some.is) (omega arith, omega arith);
 }

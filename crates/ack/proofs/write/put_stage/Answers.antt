@@ -1,4 +1,4 @@
-use Rattle.std.proofs.Common.{sym, refl, ap, ◌∙◌, subst, arith}
+use Rattle.std.proofs.Common.{sym, ap, ◌∙◌, subst}
 use Rattle.page.proofs.Pages.{puts-as, puts_none}
 use Rattle.reply.specs.Visible.{IsAddress}
 use Rattle.ack.specs.Told.{address_of}
@@ -20,8 +20,8 @@ returns-in-AtApprover c = record {
 
 pub returns-in-Ready : goal.returns-in-Ready
 returns-in-Ready c =
-    let is = c.as-bytes.ensures.value ∙ sym (ap address_of c.in-Ready.is) in
+    let is = c.as_bytes.ensures.value ∙ sym (ap address_of c.in-Ready.is) in
     record {
-      puts = puts-as (ap (λ l. ended (address_lines l)) is) c.put-address.ensures;
-      known = subst IsAddress is c.as-bytes.ensures.address;
+      puts = puts-as (ap (λ l. ended (address_lines l)) is) c.put_address.ensures;
+      known = subst IsAddress is c.as_bytes.ensures.address;
     }
