@@ -1,5 +1,5 @@
 -- What a request comes to in a world: the plan, its outcome, and the changes that it makes to the store.
-use Rattle.std.specs.Prelude.{ℕ, ◌+◌, ◌-◌, Bool, true, false, cond, not, List, [], ◌∷◌, length, drop, is_some, Some, None, Option, ◌==◌}
+use Rattle.std.specs.Prelude.{ℕ, ◌-◌, Bool, true, false, cond, not, List, [], ◌∷◌, length, drop, is_some, Some, None, Option, ◌==◌}
 use Rattle.ids.specs.declared.SessionId.{SessionId}
 use Rattle.outcome.specs.declared.Outcome.{Outcome}
 use Rattle.outcome.specs.declared.Outcome.TheVariants.{Done, UploadsOff, NoSession, TooManySessions, CutBody}
@@ -7,7 +7,7 @@ use Rattle.packet.specs.Packets.{Request}
 use Rattle.packet.specs.declared.judging.Action.{Action}
 use Rattle.packet.specs.declared.judging.Action.TheVariants.{Create, Ping, Fragment, Close, Cancel}
 use Rattle.packet.specs.declared.ranges.Range.{Range}
-use Rattle.store.specs.Meaning.{Meaning, Change}
+use Rattle.store.specs.Meaning.{Change}
 use Rattle.store.specs.Meaning.Change.{adding, clearing, publishing}
 use Rattle.session.specs.Sessions.{Live, World, row, index_of}
 use Rattle.session.specs.Rules.{is_of, is_free, fragment_fault, close_fault, create_fault}

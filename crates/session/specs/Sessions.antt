@@ -1,5 +1,5 @@
 -- What the records of sessions mean, and the world that an intake stands for.
-use Rattle.std.specs.Prelude.{ℕ, suc, Bool, true, false, cond, List, [], ◌∷◌, take, Some, None, Ok, Err, Option, Result, slice_index_or}
+use Rattle.std.specs.Prelude.{ℕ, suc, Bool, cond, List, [], ◌∷◌, take, Some, None, Ok, Err, Option, Result, slice_index_or}
 use Rattle.std.specs.Option.{option_map}
 use Rattle.ack.specs.Told.{address_of}
 use Rattle.ack.specs.declared.told.Stage.{Stage}

@@ -6,7 +6,6 @@ use Rattle.ids.specs.declared.SessionId.{SessionId}
 use Rattle.outcome.specs.Outcomes.{report_of}
 use Rattle.outcome.specs.declared.Answer.{Answer as Reported}
 use Rattle.outcome.specs.declared.Answer.TheVariants.{Silent, Accepted, Refused}
-use Rattle.outcome.specs.declared.Outcome.{Outcome}
 use Rattle.outcome.specs.declared.Refusal.{Refusal}
 use Rattle.packet.specs.Packets.{Request, packet_of}
 use Rattle.packet.specs.declared.Fault.{Fault}

@@ -1,4 +1,6 @@
 // A session of an upload: its record, the table of records, and the rules that decide what a message does to it.
+#![tactic(auto)]
+
 mod destination;
 mod paths;
 mod records;

@@ -1,4 +1,4 @@
-use Rattle.std.proofs.Common.{◌≡◌, map, length, drop}
+use Rattle.std.proofs.Common.{◌≡◌, map, drop}
 use Rattle.session.specs.Sessions.{index_of, row_of}
 use Rattle.session.specs.Wanted.{is_wanted}
 use Rattle.session.proofs.Rows.{from}
