@@ -1,5 +1,5 @@
 -- One message: a world that is told stays told.
-use Rattle.std.proofs.Common.{◌≡◌, ℕ, ◌+◌, ◌<◌, ◌≤◌, Bool, true, false, cond, not, ◌&&◌, eqb, ltb, ◌⊎◌, List, [], ◌∷◌, ◌++◌, length, is_some, Some, None, Ok, Err, MatchBool, Option, Result, sym, refl, ap, ◌∙◌, subst, inl, inr, ⊎_elim, arith}
+use Rattle.std.proofs.Common.{◌≡◌, ℕ, ◌+◌, ◌≤◌, Bool, true, false, cond, not, eqb, ltb, List, [], ◌++◌, length, is_some, Some, None, Ok, Err, MatchBool, Option, Result, sym, refl, ap, ◌∙◌, subst, ⊎_elim, arith}
 use Rattle.std.specs.Map.{update}
 use Rattle.std.specs.Str.{bytes_eq}
 use Rattle.std.proofs.lemmas.Slice.Eq.{bytes_eq-Decides}
@@ -15,14 +15,14 @@ use Rattle.packet.specs.declared.ranges.Range.{Range}
 use Rattle.session.specs.Sessions.{Live, World, row, index_of}
 use Rattle.session.specs.Rules.{is_of, is_free, grown, opened, fragment_fault, close_fault, create_fault}
 use Rattle.session.specs.Plans.{Plan, refuse, ping, create, take, close, cancel, found, in_row, stands, create_plan, take_plan, close_plan, action_plan, is_ping, plan_of, is_whole, outcome_of, fresh}
-use Rattle.session.specs.Steps.{Opened, Took, Closed, Cancelled, Done, read_outcome, ReadDone, message_outcome, MessageDone}
+use Rattle.session.specs.Steps.{Closed, Done, read_outcome, ReadDone, message_outcome, MessageDone}
 use Rattle.session.specs.declared.records.Settings.{Settings}
-use Rattle.history.specs.Ledger.{Part, Standing, receiving, away, ready, Entry, Ledger, written, of_path, named, opening, carried, carrying, closing, cancelling, part_of, after_done, after_cut, after_request, after_message}
-use Rattle.history.specs.Law.{standing_of, Keeps, Matched, Whole, Stands, Tells, number}
-use Rattle.history.proofs.Rows.{none-some, some_inj, row_inside, passes}
-use Rattle.history.proofs.OneRow.{Fits, one-row, live-row}
+use Rattle.history.specs.Ledger.{Standing, receiving, ready, Entry, Ledger, written, of_path, named, opening, carried, carrying, closing, cancelling, part_of, after_done, after_cut, after_request, after_message}
+use Rattle.history.specs.Law.{standing_of, Keeps, Whole, Stands, Tells, number}
+use Rattle.history.proofs.Rows.{none-some, passes}
+use Rattle.history.proofs.OneRow.{one-row, live-row}
 use Rattle.history.proofs.Taken.{taken-keeps}
-use Rattle.history.proofs.Refusals.{Refuses, AllRefuse, create-refuses, fragment-refuses, fragment-none, close-refuses, close-none, on-unless, on_row, Bodied, bodied}
+use Rattle.history.proofs.Refusals.{Refuses, create-refuses, fragment-refuses, fragment-none, close-refuses, close-none, on-unless, on_row, Bodied, bodied}
 
 abbrev new_entry : List ℕ → ℕ → Entry
 new_entry path clock = record { path = path; parts = []; total = None; standing = receiving; approved = false; stamp = clock }
@@ -165,11 +165,11 @@ module _ (sets : Settings) (start : List ℕ → Option (List ℕ)) (l : Ledger)
       let k = kn.keeps in
       let e = kn.entry in
       let P : Option Entry → Type 0 = λ z. Stands sets (start n) (v.store.catalog n) z in
-      let g = bytes_eq-Decides n e.path in
+      let g = bytes_eq-Decides e.path n in
       let st : e.standing ≡ ready = sym k.state ∙ s in
       ⊎_elim
       (λ y.
-      let is : n ≡ x.path = g.0 y ∙ sym k.path in
+      let is : n ≡ x.path = sym (g.0 y) ∙ sym k.path in
       let whole : Whole sets e (v.store.catalog n) = record {
         bytes = w.store.held i;
         stands = ap v.store.catalog is ∙ d.published.stored;
@@ -179,10 +179,10 @@ module _ (sets : Settings) (start : List ℕ → Option (List ℕ)) (l : Ledger)
       } in
       subst P (sym (ap (λ z. cond z (Some e) (l.published n)) y)) whole)
       (λ y.
-      let ne : n ≡ x.path → ⊥ = λ z. both_ways (bytes_eq n e.path) y (g.1 (z ∙ k.path)) in
+      let ne : n ≡ x.path → ⊥ = λ z. both_ways (bytes_eq e.path n) y (g.1 (sym (z ∙ k.path))) in
       let Q : Option (List ℕ) → Type 0 = λ c. Stands sets (start n) c (l.published n) in
       subst P (sym (ap (λ z. cond z (Some e) (l.published n)) y)) (subst Q (sym (d.published.names n ne)) (t.catalog n)))
-      (cases_Bool (bytes_eq n e.path))
+      (cases_Bool (bytes_eq e.path n))
 
   closed_after : (q : Request) (id : SessionId) (i : ℕ) (x : Live) → found sets w id q.path ≡ Some i → row w.rows i ≡ Some x → standing_of x.phase ≡ ready → After sets start l w v q (Close id) (close i x)
   closed_after q id i x f h s d =

@@ -1,7 +1,6 @@
 -- One answer: a world that is told stays told.
-use Rattle.std.proofs.Common.{◌≡◌, ℕ, Bool, true, false, cond, ◌&&◌, eqb, ltb, List, [], ◌∷◌, Some, None, MatchBool, Option, sym, refl, ap, ◌∙◌, subst, arith}
+use Rattle.std.proofs.Common.{◌≡◌, ℕ, Bool, true, false, cond, eqb, ltb, List, Some, None, MatchBool, Option, sym, refl, ap, ◌∙◌, subst, arith}
 use Rattle.std.proofs.lemmas.Bool.{both_ways, and_parts, eqb-true}
-use Rattle.outcome.specs.declared.Outcome.{Outcome}
 use Rattle.outcome.specs.declared.Outcome.TheVariants.{Done as Finished, ShortPage, BadReplyAddress}
 use Rattle.session.specs.Sessions as session
 use Rattle.session.specs.Sessions.{Phase, Live, World, row, index_of}
@@ -9,9 +8,9 @@ use Rattle.session.specs.Rules.{is_away, is_asked, ruled}
 use Rattle.session.specs.Steps as step
 use Rattle.session.specs.Steps.{Word, Written, Ruled, is_address, asked_outcome, AskedDone, answer_outcome, AnswerDone}
 use Rattle.session.specs.declared.records.Settings.{Settings}
-use Rattle.history.specs.Ledger.{Standing, receiving, away, ready, Entry, Ledger, written, approved, refused, amending, after_answer}
-use Rattle.history.specs.Law.{standing_of, Keeps, Matched, Tells, number}
-use Rattle.history.proofs.Rows.{none-some, passes}
+use Rattle.history.specs.Ledger.{receiving, Entry, Ledger, written, approved, refused, amending, after_answer}
+use Rattle.history.specs.Law.{standing_of, Keeps, Tells, number}
+use Rattle.history.proofs.Rows.{passes}
 use Rattle.history.proofs.OneRow.{live-row}
 use Rattle.history.proofs.Messages.{at_slot, kept-names, unchanged}
 

@@ -1,5 +1,5 @@
 -- The law over histories: the world after any calls is the one that the ledger tells of.
-use Rattle.std.specs.Prelude.{◌≡◌, ℕ, ◌<◌, ◌≤◌, Bool, true, false, List, [], ◌∷◌, length, Some, None, Option, ◌≢◌}
+use Rattle.std.specs.Prelude.{◌≡◌, ℕ, ◌<◌, ◌≤◌, true, List, [], ◌∷◌, length, Some, None, Option, ◌≢◌}
 use Rattle.std.specs.List.{slice_get}
 use Rattle.outcome.specs.Outcomes.{report_of}
 use Rattle.outcome.specs.declared.Outcome.{Outcome}

@@ -1,5 +1,5 @@
 -- Small cases of the ledger's words, worked out.
-use Rattle.std.specs.Prelude.{◌≡◌, ℕ, Bool, true, false, List, [], ◌∷◌, map, Some, None, Option}
+use Rattle.std.specs.Prelude.{◌≡◌, ℕ, false, List, [], ◌∷◌, map, Some, None}
 use Rattle.history.specs.Ledger.{Part, first_byte, places, receiving, Entry, struck}
 
 abbrev pub part : ℕ → List ℕ → Part

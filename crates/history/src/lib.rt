@@ -1,4 +1,6 @@
 // The law over histories: what any list of messages, answers and ticks comes to, by a ledger drawn from the calls alone.
+#![tactic(auto)]
+
 ghost use Rattle.history.specs.Law.{Faithful};
 ghost use Rattle.history.specs.Samples.{Samples};
 
