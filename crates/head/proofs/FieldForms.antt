@@ -1,10 +1,9 @@
 -- A line holds a field exactly where it has a field's form.
-use Rattle.std.proofs.Common.{◌≡◌, ℕ, zero, suc, ◌+◌, ◌-◌, ◌<◌, ◌≤◌, Bool, true, false, cond, ◌&&◌, eqb, leb, List, [], ◌∷◌, ◌++◌, length, get_or, take, drop, Some, None, Ok, Err, Option, Result, sym, refl, ap, ◌∙◌, subst, inl, inr, append_assoc, arith, length-append}
+use Rattle.std.proofs.Common.{◌≡◌, ℕ, zero, suc, ◌+◌, ◌<◌, ◌≤◌, Bool, true, false, cond, ◌&&◌, eqb, leb, List, [], ◌∷◌, ◌++◌, length, get_or, take, drop, Some, None, Ok, Err, Option, Result, sym, refl, ap, ◌∙◌, subst, inl, inr, append_assoc, arith}
 use Rattle.std.proofs.lemmas.List.{take-append-drop, take_at, drop_at, get_or_at, get_or_past, drop_more, length_push, length-take-le}
-use Rattle.std.proofs.lemmas.List.Sums.{prefix_len-le-length}
-use Rattle.std.proofs.lemmas.Bool.{cases_lt, eqb-true, eq-eqb, leb-true, le-leb, and_parts, and_from, cond-true, false≢true}
+use Rattle.std.proofs.lemmas.Bool.{cases_lt, eqb-true, eq-eqb, leb-true, le-leb, and_parts, and_from, cond-true}
 use Rattle.std.specs.List.{prefix_len}
-use Rattle.text.specs.Bytes.{token_byte, value_byte, blank, every}
+use Rattle.text.specs.Bytes.{token_byte, value_byte, every}
 use Rattle.text.specs.Words.{trimmed}
 use Rattle.text.proofs.Runs.{leading-append, leading-every, trim-is, trim-cut}
 use Rattle.head.specs.Lines.{Entry, valued, named_to, field_of, join_field, fields_of}

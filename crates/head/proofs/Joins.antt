@@ -1,12 +1,11 @@
 -- Lines joined by line ends, and marks among them.
-use Rattle.std.proofs.Common.{◌≡◌, ℕ, zero, suc, ◌+◌, ◌-◌, ◌<◌, ◌≤◌, Bool, true, false, cond, not, ◌&&◌, eqb, List, [], ◌∷◌, ◌++◌, length, get_or, take, drop, Some, None, Option, sym, refl, ap, ◌∙◌, subst, append_assoc, arith, length-append}
+use Rattle.std.proofs.Common.{◌≡◌, ℕ, zero, suc, ◌+◌, ◌-◌, ◌<◌, ◌≤◌, Bool, true, false, cond, not, ◌&&◌, eqb, List, [], ◌∷◌, ◌++◌, length, take, drop, Some, None, Option, sym, refl, ap, ◌∙◌, subst, append_assoc, arith, length-append}
 use Rattle.std.proofs.lemmas.List.{append-nil}
-use Rattle.std.proofs.lemmas.Bool.{eqb-true, and_parts, and_left, cond-true, cond-false, not-true, false≢true, true≢false}
+use Rattle.std.proofs.lemmas.Bool.{eqb-true, and_parts, and_left, cond-true, cond-false, not-true, true≢false}
 use Rattle.text.specs.Bytes.{token_byte, value_byte, blank, every}
 use Rattle.text.proofs.Runs.{every_append, every-weaker}
 use Rattle.head.specs.Marks.{front, line_end, head_mark, mark_from, with_byte, cut_lines, lines_of}
 use Rattle.head.specs.Lines.{Entry}
-use Rattle.head.specs.Loops.{lines_after}
 use Rattle.head.specs.Grammar.{FieldLine, FieldLines, led, join_lines}
 use Rattle.head.proofs.Fronts.{front-is, is_front}
 use Rattle.head.proofs.Turns.{lines_more}

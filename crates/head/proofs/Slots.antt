@@ -1,5 +1,5 @@
 -- The slots of the known fields.
-use Rattle.std.proofs.Common.{◌≡◌, ℕ, ◌⊎◌, Some, None, Option, sym, refl, ap, ◌∙◌, inl, inr, arith}
+use Rattle.std.proofs.Common.{◌≡◌, ℕ, ◌⊎◌, Some, refl, ap, ◌∙◌, inl, inr, arith}
 use Rattle.head.specs.declared.fields.Name.{Name}
 use Rattle.head.specs.declared.fields.Name.TheVariants.{ContentLength, PacketType, SessionId, ContentRange, ContentEncoding, SupportedProtocols}
 use Rattle.head.specs.Heads.{Found, Table, slot_of, with_slot, again}

@@ -1,11 +1,11 @@
 -- The known fields are those that stand alone under their names.
-use Rattle.std.proofs.Common.{◌≡◌, ℕ, ◌+◌, ◌<◌, ◌≤◌, ◌⊎◌, List, [], ◌∷◌, ◌++◌, length, get_or, Some, None, fold, Option, sym, refl, ap, ◌∙◌, subst, inl, inr, ⊎_elim, append_assoc, arith, length-append}
+use Rattle.std.proofs.Common.{◌≡◌, ℕ, List, [], ◌∷◌, ◌++◌, length, get_or, Some, None, fold, Option, sym, refl, ap, ◌∙◌, subst, inl, inr, ⊎_elim, append_assoc, arith, length-append}
 use Rattle.std.proofs.lemmas.List.{append-nil, get_or_append_left, get_or_at, length_push}
 use Rattle.std.proofs.lemmas.Bool.{cases_lt}
 use Rattle.head.specs.declared.fields.Name.{Name}
 use Rattle.head.specs.declared.fields.Name.TheVariants.{ContentLength, PacketType, SessionId, ContentRange, ContentEncoding, SupportedProtocols}
 use Rattle.head.specs.Lines.{Entry}
-use Rattle.head.specs.Heads.{Found, Table, name_of, slot_of, with_slot, first_of, again, placed, kept_as, kept, empty}
+use Rattle.head.specs.Heads.{Found, Table, name_of, slot_of, first_of, placed, kept_as, kept, empty}
 use Rattle.head.specs.Grammar.{Absent, OnlyOne, Sole}
 use Rattle.head.proofs.Slots.{slot-with, with-repeated, table_same}
 

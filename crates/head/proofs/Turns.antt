@@ -1,12 +1,12 @@
 -- One line of a head after another.
-use Rattle.std.proofs.Common.{◌≡◌, ℕ, zero, suc, ◌+◌, ◌-◌, ◌<◌, ◌≤◌, Bool, true, false, cond, eqb, leb, List, [], ◌∷◌, length, take, drop, Some, None, Ok, Err, fold, Option, Result, sym, refl, ap, ◌∙◌, add-one, one-add, arith, length-drop}
+use Rattle.std.proofs.Common.{◌≡◌, ℕ, zero, suc, ◌+◌, ◌-◌, ◌<◌, ◌≤◌, true, false, cond, eqb, List, [], ◌∷◌, length, take, drop, Some, None, Ok, Err, Option, Result, sym, refl, ap, ◌∙◌, one-add, arith, length-drop}
 use Rattle.std.proofs.lemmas.List.{drop-drop, take_rest, length-take-le}
 use Rattle.std.proofs.lemmas.Bool.{false≢true, le-leb, lt-leb, cond-true, cond-false, and_parts}
 use Rattle.head.specs.declared.Fault.{Fault}
 use Rattle.head.specs.declared.Fault.TheVariants.{Malformed}
 use Rattle.head.specs.Marks.{front, line_end, line_length, with_byte, cut_lines, lines_of}
 use Rattle.head.specs.Lines.{Entry, path_of, field_of, join_field, fields_of}
-use Rattle.head.specs.Heads.{Table, kept, empty, gathered, end_of, with_path, judged, up_to, head_of}
+use Rattle.head.specs.Heads.{Table, empty, gathered, end_of, with_path, judged, up_to, head_of}
 use Rattle.head.specs.Loops.{with_line, lines_after, and_then}
 
 -- the first line, and those that follow

@@ -1,8 +1,8 @@
 -- An input reads as a head exactly where it begins with one, and what does not matter to it.
-use Rattle.std.proofs.Common.{◌≡◌, ℕ, zero, suc, ◌+◌, ◌-◌, ◌<◌, ◌≤◌, Bool, true, false, cond, ◌&&◌, ltb, leb, List, [], ◌∷◌, ◌++◌, map, length, take, drop, IfOk, Some, None, Ok, Err, codes, fold, Option, Result, sym, refl, ap, ◌∙◌, subst, inl, inr, append_assoc, arith, length-append, length-take}
+use Rattle.std.proofs.Common.{◌≡◌, ℕ, ◌+◌, ◌-◌, ◌<◌, ◌≤◌, true, false, cond, ◌&&◌, ltb, leb, List, [], ◌∷◌, ◌++◌, map, length, take, drop, IfOk, Some, None, Ok, Err, codes, fold, Option, Result, sym, refl, ap, ◌∙◌, subst, append_assoc, arith, length-append, length-take}
 use Rattle.std.proofs.lemmas.Slice.Eq.{bytes_eq-Decides}
 use Rattle.std.proofs.lemmas.List.{take-append-drop, take_at, take_all}
-use Rattle.std.proofs.lemmas.Bool.{and_parts, ltb-true, cond-true, cond-false, cases_lt, cases_Bool}
+use Rattle.std.proofs.lemmas.Bool.{and_parts, ltb-true, cond-true}
 use Rattle.std.specs.Char.{to_ascii_lowercase}
 use Rattle.std.specs.Str.{bytes_eq}
 use Rattle.text.specs.Bytes.{visible, every}
@@ -10,18 +10,17 @@ use Rattle.text.specs.Words.{same_letters}
 use Rattle.text.proofs.Runs.{every_append, every-weaker}
 use Rattle.head.specs.declared.Head.{Head}
 use Rattle.head.specs.declared.Fault.{Fault}
-use Rattle.head.specs.declared.Fault.TheVariants.{Unfinished, Malformed, Repeated}
+use Rattle.head.specs.declared.Fault.TheVariants.{Unfinished, Malformed}
 use Rattle.head.specs.declared.fields.Name.{Name}
-use Rattle.head.specs.Marks.{line_end, head_mark, mark_from, lines_of}
+use Rattle.head.specs.Marks.{head_mark, mark_from, lines_of}
 use Rattle.head.specs.Lines.{Entry, request_of, middle, good_path, path_of, fields_of}
 use Rattle.head.specs.Heads.{Reading, Table, name_of, kept_as, kept, empty, gathered, in_time, end_of, unrepeated, with_table, with_path, judged, up_to, head_of, reading, seen, slot_of}
 use Rattle.head.specs.Grammar.{FieldLines, join_lines, Sole, Parts, WellFormed, Recased}
 use Rattle.head.proofs.Soles.{known-sole, sole-known}
 use Rattle.head.specs.Laws.{Exact, NoHead, Fenced, Caseless}
-use Rattle.head.proofs.Turns.{lines_more}
 use Rattle.head.proofs.Requests.{path-is}
 use Rattle.head.proofs.FieldForms.{cond-some, fields-sound, fields-complete}
-use Rattle.head.proofs.Joins.{not_cr, not-cr, Clean, lines-clean, lines_join, mark-join, join-lines, mark-sound, mark-none, mark-again, take-front}
+use Rattle.head.proofs.Joins.{not_cr, not-cr, lines-clean, lines_join, mark-join, join-lines, mark-sound, mark-none, mark-again, take-front}
 
 -- the first 8,192 bytes around an end
 seen-part : (input body rest : List ℕ) → input ≡ body ++ (head_mark ++ rest) → length body + 4 ≤ 8192 → take 8192 input ≡ body ++ (head_mark ++ take (8192 - (length body + 4)) rest)

@@ -1,5 +1,5 @@
 -- A whole head: its end, its lines, its known fields.
-use Rattle.std.specs.Prelude.{ℕ, ◌+◌, Bool, true, false, cond, List, [], ◌∷◌, length, take, Some, None, Ok, Err, codes, fold, Option, Result, nat_lt}
+use Rattle.std.specs.Prelude.{ℕ, ◌+◌, cond, List, [], ◌∷◌, length, take, Some, None, Ok, Err, codes, fold, Option, Result, nat_lt}
 use Rattle.std.specs.Option.{option_map}
 use Rattle.text.specs.Words.{same_letters}
 use Rattle.head.specs.declared.Fault.{Fault}

@@ -1,6 +1,5 @@
 -- Bytes that stand somewhere in a list: where the first mark is, and the list cut at each line end.
 use Rattle.std.specs.Prelude.{ℕ, ◌+◌, Bool, true, false, cond, ◌&&◌, List, [], ◌∷◌, Some, None, codes, Option, ◌==◌}
-use Rattle.std.specs.Option.{option_map}
 
 -- the list begins with p
 abbrev pub front : List ℕ → List ℕ → Bool

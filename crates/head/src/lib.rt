@@ -1,4 +1,6 @@
 // The head of a request: where it ends, its request line, its fields; and what is wrong with it, with its line's offset.
+#![tactic(auto)]
+
 ghost use Rattle.std.specs.Prelude.{◌≡◌, ◌≤◌, length, IfOk};
 ghost use Rattle.head.specs.Faults.{number_of, place_of};
 ghost use Rattle.head.specs.Heads.{head_of, seen};

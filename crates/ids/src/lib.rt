@@ -1,4 +1,6 @@
 // A session's id: two numbers, and their text as `{8-4-4-4-12}` hexadecimal digits.
+#![tactic(auto)]
+
 ghost use Rattle.std.specs.Prelude.{◌≡◌, ℕ, ◌+◌, ◌*◌, ◌^◌, ◌<◌, ◌≤◌, length, codes, ◌≢◌};
 ghost use Rattle.std.specs.Char.{digit_value};
 ghost use Rattle.ids.specs.Ids.{as_shape, digits_at, id_of, id_text, part_of, ReadsId};

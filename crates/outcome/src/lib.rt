@@ -1,4 +1,6 @@
 // What a call came to: one named case for each number, and what each reports.
+#![tactic(auto)]
+
 ghost use Rattle.std.specs.Prelude.{◌≡◌};
 ghost use Rattle.outcome.specs.Outcomes.{by, context_of, invalid_code, number_of, of, phrase_of, report_of};
 

@@ -1,28 +1,26 @@
 -- Fields that are the same but for letter case are judged alike.
-use Rattle.std.proofs.Common.{◌≡◌, ℕ, ◌+◌, Bool, true, false, cond, ◌||◌, eqb, ◌⊎◌, List, [], ◌∷◌, ◌++◌, map, length, take, drop, Some, None, Ok, Err, codes, fold, Option, Result, sym, refl, ap, ◌∙◌, subst, inl, inr, ⊎_elim, arith}
+use Rattle.std.proofs.Common.{◌≡◌, ℕ, ◌+◌, cond, List, [], ◌∷◌, map, length, take, drop, Some, None, Ok, Err, codes, fold, Option, sym, refl, ap, ◌∙◌, subst, inl, inr}
 use Rattle.std.specs.Option.{ok_or}
 use Rattle.std.specs.Char.{to_ascii_lowercase}
 use Rattle.text.specs.Words.{same_letters}
 use Rattle.text.specs.Numbers.{decimal_of}
 use Rattle.head.specs.Lines.{Entry, request_of}
-use Rattle.head.specs.Heads.{Found, Table, Reading, name_of, slot_of, with_slot, first_of, again, placed, kept_as, kept, empty, unrepeated, with_table, head_of}
-use Rattle.head.specs.Grammar.{Parts, join_lines}
+use Rattle.head.specs.Heads.{Found, Table, name_of, slot_of, with_slot, first_of, again, placed, kept_as, kept, empty, unrepeated}
+use Rattle.head.specs.Grammar.{join_lines}
 use Rattle.head.specs.declared.fields.Name.{Name}
 use Rattle.head.specs.declared.fields.Name.TheVariants as name
 use Rattle.head.proofs.Slots.{slot-with, with-repeated, again-slot}
 use Rattle.head.proofs.Wholes.{parts-read, named-alike}
 use Rattle.ids.specs.Ids.{id_of}
 use Rattle.ids.specs.declared.SessionId.{SessionId}
-use Rattle.packet.specs.declared.Fault.{Fault}
 use Rattle.packet.specs.declared.Fault.TheVariants.{Field}
-use Rattle.packet.specs.declared.judging.Action.{Action}
-use Rattle.packet.specs.declared.judging.Action.TheVariants.{Create, Ping, Fragment, Close, Cancel}
+use Rattle.packet.specs.declared.judging.Action.TheVariants.{Create, Fragment, Close, Cancel}
 use Rattle.packet.specs.declared.judging.Kind.{Kind}
 use Rattle.packet.specs.declared.judging.Kind.TheVariants as kind
 use Rattle.packet.specs.Ranges.{range_of}
 use Rattle.packet.specs.Protocols.{protocols_of}
-use Rattle.packet.specs.Judging.{and_then, given, judged_by, is_fragment, if_empty, length_of, kind_named, kind_of, id_of_field, protocols_of_field, encoding_of, with_range, with_session, fragment_of, action_of, with_kind, with_length, judged_of}
-use Rattle.packet.specs.Packets.{request_from, with_head, packet_of}
+use Rattle.packet.specs.Judging.{and_then, given, judged_by, is_fragment, if_empty, length_of, kind_named, kind_of, id_of_field, protocols_of_field, encoding_of, with_range, fragment_of, action_of, judged_of}
+use Rattle.packet.specs.Packets.{with_head, packet_of}
 use Rattle.packet.specs.Laws.{Recased, Caseless}
 use Rattle.packet.proofs.Lowers.{decimal-alike, range-alike, id-alike, protocols-alike, kind-alike, letters-alike}
 

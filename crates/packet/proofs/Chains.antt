@@ -1,5 +1,5 @@
 -- One judged field after another.
-use Rattle.std.proofs.Common.{◌≡◌, Ok, Err, Result, sym, refl, ap, ◌∙◌}
+use Rattle.std.proofs.Common.{◌≡◌, Ok, Err, Result, sym, ap, ◌∙◌}
 use Rattle.head.specs.Heads.{Found, found}
 use Rattle.head.specs.declared.fields.Known.{Known}
 use Rattle.packet.specs.declared.Fault.{Fault}

@@ -1,8 +1,8 @@
 -- A value is a list of protocols exactly where it is written as one.
-use Rattle.std.proofs.Common.{◌≡◌, ℕ, zero, suc, ◌+◌, ◌-◌, ◌<◌, ◌≤◌, Bool, true, false, cond, ◌&&◌, ◌||◌, eqb, List, [], ◌∷◌, ◌++◌, length, get_or, take, drop, Some, None, Option, sym, refl, ap, ◌∙◌, subst, inl, inr, arith, length-append, length-drop}
+use Rattle.std.proofs.Common.{◌≡◌, ℕ, zero, suc, ◌<◌, ◌≤◌, Bool, true, false, cond, ◌||◌, eqb, List, [], ◌∷◌, ◌++◌, length, get_or, take, drop, Some, None, Option, sym, refl, ap, ◌∙◌, subst, inl, inr, arith, length-append}
 use Rattle.std.proofs.lemmas.List.{take-append-drop, take_at, drop_at, take_all, drop_all, length-take-le, append-nil}
 use Rattle.std.proofs.lemmas.List.Sums.{prefix_len-le-length}
-use Rattle.std.proofs.lemmas.Bool.{and_left, cases_eq, eqb-true, eqb-false, ne_eqb, cond-false, cases_Bool, false≢true}
+use Rattle.std.proofs.lemmas.Bool.{and_left, cases_eq, eqb-true, eqb-false, ne_eqb, cond-false, cases_Bool}
 use Rattle.std.specs.List.{prefix_len}
 use Rattle.std.specs.Str.Parse.{digits_value}
 use Rattle.text.specs.Bytes.{divider, every}
@@ -12,7 +12,6 @@ use Rattle.ids.specs.declared.SessionId.{SessionId}
 use Rattle.ids.proofs.Texts.{not-long}
 use Rattle.packet.specs.Protocols.{ours, after_with, with_id, ids_from, protocols_of}
 use Rattle.packet.specs.Forms.{Link, ListText, any_ours}
-use Rattle.packet.proofs.Lists.{ids-fuel}
 
 or_assoc : (a b c : Bool) → ((a || b) || c) ≡ (a || (b || c))
 or_assoc true b c = refl

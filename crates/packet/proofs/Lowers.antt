@@ -12,8 +12,6 @@ use Rattle.text.specs.Numbers.{writes_number, decimal_of}
 use Rattle.ids.specs.Ids.{id_of}
 use Rattle.ids.specs.declared.SessionId.{SessionId}
 use Rattle.ids.proofs.Texts.{reads-id}
-use Rattle.packet.specs.declared.ranges.Range.{Range}
-use Rattle.packet.specs.declared.judging.Kind.{Kind}
 use Rattle.packet.specs.Ranges.{Rest, with_rest, cut_at, before_mark, total_of, last_of, first_of, span_of, after_blanks, range_of}
 use Rattle.packet.specs.Protocols.{ours, after_with, with_id, ids_from, protocols_of}
 use Rattle.packet.specs.Judging.{kind_named}

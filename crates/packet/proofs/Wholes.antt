@@ -4,11 +4,9 @@ use Rattle.head.specs.Heads.{Reading, head_of}
 use Rattle.head.specs.declared.Fault as text
 use Rattle.head.specs.Marks.{head_mark}
 use Rattle.head.specs.Lines.{request_of}
-use Rattle.head.specs.Grammar.{WellFormed, join_lines}
-use Rattle.head.specs.Laws as heads
+use Rattle.head.specs.Grammar.{join_lines}
 use Rattle.head.proofs.Wholes as whole
 use Rattle.packet.specs.declared.Fault.{Fault}
-use Rattle.packet.specs.declared.Fault.TheVariants.{Text}
 use Rattle.packet.specs.Judging.{and_then, judged_of}
 use Rattle.packet.specs.declared.Packet.{Packet}
 use Rattle.packet.specs.Packets.{Request, request_from, with_head, packet_of, request, seen}

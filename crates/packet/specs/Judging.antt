@@ -1,5 +1,5 @@
 -- What each packet type needs, judged field by field.
-use Rattle.std.specs.Prelude.{ℕ, Bool, true, false, cond, ◌||◌, List, Some, None, Ok, Err, codes, Option, Result, ◌==◌}
+use Rattle.std.specs.Prelude.{ℕ, Bool, false, cond, ◌||◌, List, Some, None, Ok, Err, codes, Option, Result, ◌==◌}
 use Rattle.std.specs.Option.{option_map, ok_or}
 use Rattle.text.specs.Words.{same_letters}
 use Rattle.text.specs.Numbers.{decimal_of}
@@ -9,7 +9,6 @@ use Rattle.ids.specs.Ids.{id_of}
 use Rattle.ids.specs.declared.SessionId.{SessionId}
 use Rattle.packet.specs.declared.Fault.{Fault}
 use Rattle.packet.specs.declared.Fault.TheVariants.{Field}
-use Rattle.packet.specs.declared.ranges.Range.{Range}
 use Rattle.packet.specs.declared.judging.Action.{Action}
 use Rattle.packet.specs.declared.judging.Action.TheVariants.{Create, Ping, Fragment, Close, Cancel}
 use Rattle.packet.specs.declared.judging.Kind.{Kind}

@@ -1,5 +1,5 @@
 -- What the reading of requests keeps, in the words of the forms.
-use Rattle.std.specs.Prelude.{◌≡◌, ℕ, ◌+◌, ◌≤◌, List, [], ◌∷◌, map, length, take, drop, Ok, Err, Result}
+use Rattle.std.specs.Prelude.{◌≡◌, ℕ, List, [], ◌∷◌, map, take, drop, Ok, Err, Result}
 use Rattle.head.specs.declared.Fault as text
 use Rattle.head.specs.Heads.{Reading, head_of}
 use Rattle.std.specs.Char.{to_ascii_lowercase}

@@ -1,5 +1,5 @@
 -- A list of protocols: ids, and between two of them one or more blanks and commas.
-use Rattle.std.specs.Prelude.{ℕ, zero, suc, Bool, true, false, cond, ◌&&◌, ◌||◌, List, [], ◌∷◌, length, take, drop, Some, None, Option, ◌==◌}
+use Rattle.std.specs.Prelude.{ℕ, zero, suc, Bool, false, cond, ◌&&◌, ◌||◌, List, [], ◌∷◌, length, take, drop, Some, None, Option, ◌==◌}
 use Rattle.std.specs.List.{prefix_len}
 use Rattle.text.specs.Bytes.{divider}
 use Rattle.ids.specs.Ids.{id_of}

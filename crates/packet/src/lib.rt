@@ -1,4 +1,6 @@
 // A request: the known fields of its head judged in order, and the typed packet that they give.
+#![tactic(auto)]
+
 ghost use Rattle.std.specs.Prelude.{◌≡◌, ◌+◌, ◌≤◌, length, take, IfOk};
 ghost use Rattle.packet.specs.declared.Fault.TheVariants.{Text};
 ghost use Rattle.packet.specs.Faults.{number_of, place_of};

@@ -1,5 +1,5 @@
 -- An id's text in pieces. Assumes nothing.
-use Rattle.std.proofs.Common.{◌≡◌, ℕ, zero, suc, ◌-◌, ◌/◌, ◌%◌, ◌^◌, List, [], ◌∷◌, ◌++◌, codes, sym, refl, ap, ◌∙◌, arith}
+use Rattle.std.proofs.Common.{◌≡◌, ℕ, zero, suc, ◌-◌, ◌/◌, ◌%◌, ◌^◌, [], ◌∷◌, ◌++◌, codes, sym, refl, ap, ◌∙◌, arith}
 use Rattle.ids.proofs.Texts.{hexes-split}
 use Rattle.ids.specs.Ids.{hex_digit, hexes, id_text, filled, site_shape, serial_shape}
 use Rattle.ids.specs.declared.SessionId.{SessionId}

@@ -1,5 +1,7 @@
 // Writes pieces one after another into a page: bytes, numbers and ids.
 // Each call writes from a place on, as far as the page reaches, and gives the place just past what it wrote.
+#![tactic(auto)]
+
 ghost use Rattle.std.specs.Prelude.{◌≡◌, ℕ, ◌<◌, decimal};
 ghost use Rattle.ids.specs.Ids.{hex_digit, hexes, id_text};
 ghost use Rattle.page.specs.Page.{Puts};

@@ -1,4 +1,6 @@
 // A reply address: up to 256 bytes, each one visible (0x21 to 0x7E). It is held whole, so that nothing is borrowed or allocated.
+#![tactic(auto)]
+
 ghost use Rattle.std.specs.Prelude.{◌≡◌, ◌≤◌, true, take};
 ghost use Rattle.reply.specs.Visible.{are_visible, most};
 

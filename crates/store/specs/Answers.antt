@@ -1,7 +1,7 @@
 -- What a store answers.
 use Rattle.std.specs.Prelude.{◌≡◌, ℕ, ◌-◌, ◌≤◌, min, List, ◌++◌, length, take, drop, Some, None, Ok, Err, Option, Result}
 use Rattle.store.specs.declared.Refusal.{Refusal}
-use Rattle.store.specs.declared.Refusal.TheVariants.{NoRoom, Unpublishable, Absent}
+use Rattle.store.specs.declared.Refusal.TheVariants.{Absent}
 
 -- P holds if the call was accepted
 abbrev pub Accepted : {X E : Type 0} → Result X E → Type 0 → Type 0

@@ -1,5 +1,5 @@
 -- What a store means, and what one change does to that meaning. Nothing above a store speaks of anything else.
-use Rattle.std.specs.Prelude.{◌≡◌, ℕ, ◌+◌, ◌≤◌, Bool, ◌&&◌, List, [], ◌++◌, length, Some, None, Option, ◌≢◌, nat_le}
+use Rattle.std.specs.Prelude.{◌≡◌, ℕ, ◌+◌, ◌≤◌, Bool, ◌&&◌, List, [], ◌++◌, length, Some, Option, ◌≢◌, nat_le}
 
 -- the bytes in each slot of the staging area, how many more it takes, what is published under a name, and
 -- whether a slot can be published under a name now

@@ -1,4 +1,6 @@
 // What every store of uploaded bundles shows of itself: 16 slots to stage bytes in, and a catalog of published names.
+#![tactic(auto)]
+
 ghost use Rattle.std.specs.Prelude.{◌≡◌, ℕ, ◌+◌, ◌^◌, ◌<◌, ◌≤◌, false, List, [], length, is_ok, nat_le};
 ghost use Rattle.store.specs.Answers.{Accepted, Refused, length_of, copied, filled, Within};
 ghost use Rattle.store.specs.Meaning.Change.{adding, clearing, publishing};

@@ -1,4 +1,6 @@
 // The bytes that a request head is made of: their classes, blanks, letter case and decimal numbers.
+#![tactic(auto)]
+
 ghost use Rattle.std.specs.Prelude.{◌≡◌, ◌≤◌, length};
 ghost use Rattle.std.specs.List.{prefix_len};
 ghost use Rattle.text.specs.Bytes.{class_of, passes_as, every};

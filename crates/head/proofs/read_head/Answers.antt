@@ -1,4 +1,4 @@
-use Rattle.std.proofs.Common.{◌≡◌, sym, subst}
+use Rattle.std.proofs.Common.{sym, subst}
 use Rattle.head.specs.Laws.{Exact, NoHead, Fenced, Caseless}
 use Rattle.head.proofs.Wholes.{size-within, exact, no-head, fenced, caseless}
 use Rattle.head.proofs.read_head.Goals as goal

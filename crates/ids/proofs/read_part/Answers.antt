@@ -24,9 +24,9 @@ next ps bs i n m h k small digit other inv =
 pub returns-then-s-ne19 : goal.returns-then-s-ne19
 returns-then-s-ne19 c = sym (cond-false _ _ _ (uneven c.args.shape.now c.args.s.now (λ e. c.if-s-ne19.true (omega arith))))
 
-pub returns-then-not-is-as : goal.returns-then-not-is-as
-returns-then-not-is-as c =
-    let no' = fits-step c.args.shape.now c.args.s.now c.loop-i.i (omega arith) (omega arith) ∙ and_left _ _ (sym c.if-not-is-as.ensures) in
+pub returns-then-not-is_as : goal.returns-then-not-is_as
+returns-then-not-is_as c =
+    let no' = fits-step c.args.shape.now c.args.s.now c.loop-i.i (omega arith) (omega arith) ∙ and_left _ _ (sym c.if-not-is_as.ensures) in
     sym (cond-false _ _ _ (sym c.loop-i.invariant.0 ∙ no'))
 
 pub loop-i-preserved : goal.loop-i-preserved
@@ -34,8 +34,8 @@ loop-i-preserved c =
     let ps = c.args.shape.now in
     let bs = c.args.s.now in
     let i = c.loop-i.i in (
-      sym (fits-step ps bs i (omega arith) (omega arith) ∙ ap (λ t. t && fits (drop (i + 1) ps) (drop (i + 1) bs)) (sym c.if-not-is-as.ensures)) ∙ c.loop-i.invariant.0,
-      λ fit. next ps bs i c.loop-i.n c.with-digit-n.result (omega arith) (omega arith) (part_small ps bs fit c.requires) c.with-digit-n.ensures.digit c.with-digit-n.ensures.other (c.loop-i.invariant.1 fit),
+      sym (fits-step ps bs i (omega arith) (omega arith) ∙ ap (λ t. t && fits (drop (i + 1) ps) (drop (i + 1) bs)) (sym c.if-not-is_as.ensures)) ∙ c.loop-i.invariant.0,
+      λ fit. next ps bs i c.loop-i.n c.with_digit-n.result (omega arith) (omega arith) (part_small ps bs fit c.requires) c.with_digit-n.ensures.digit c.with_digit-n.ensures.other (c.loop-i.invariant.1 fit),
     )
 
 pub returns : goal.returns

@@ -1,4 +1,4 @@
-use Rattle.std.proofs.Common.{◌≡◌, sym, subst}
+use Rattle.std.proofs.Common.{sym, subst}
 use Rattle.packet.specs.Laws.{Exact, Passed, Caseless}
 use Rattle.packet.proofs.Wholes.{exact, passed, request-within}
 use Rattle.packet.proofs.Cases.{caseless}

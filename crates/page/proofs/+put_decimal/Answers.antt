@@ -7,4 +7,4 @@ pub returns-then-n-lt10 : goal.returns-then-n-lt10
 returns-then-n-lt10 t c = puts-as (sym (decimal_digit c.args.n c.if-n-lt10.true)) c.put.ensures
 
 pub returns-else-n-lt10 : goal.returns-else-n-lt10
-returns-else-n-lt10 t c = puts-as (sym (decimal_step c.args.n c.if-n-lt10.false (omega arith))) (c.put-decimal-last.ensures then c.put-else-n-lt10.ensures)
+returns-else-n-lt10 t c = puts-as (sym (decimal_step c.args.n c.if-n-lt10.false (omega arith))) (c.put_decimal-last.ensures then c.put-else-n-lt10.ensures)

@@ -15,11 +15,11 @@ returns-then-digits-ge4 t c =
     let n = c.args.n in
     let all : k ≡ k - 4 + 4 = omega arith in
     let text = ap (λ l. hexes (k - 4) (n / 65536) ++ l) c.four.ensures ∙ sym (hexes-split (k - 4) 4 k n all) in
-    puts-as text (c.put-hex-last.ensures then c.put.ensures)
+    puts-as text (c.put_hex-last.ensures then c.put.ensures)
 
 pub returns : goal.returns
 returns t c =
     let k = c.args.digits in
     let n = c.args.n in
-    let text = ap (λ d. hexes (k - 1) (n / 16) ++ d ∷ []) c.hex-digit.ensures ∙ sym (hexes-step k n c.if-digits-eq0.false) in
-    puts-as text (c.put-hex-last-2.ensures then c.put-2.ensures)
+    let text = ap (λ d. hexes (k - 1) (n / 16) ++ d ∷ []) c.hex_digit.ensures ∙ sym (hexes-step k n c.if-digits-eq0.false) in
+    puts-as text (c.put_hex-last-2.ensures then c.put-2.ensures)

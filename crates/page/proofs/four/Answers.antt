@@ -4,4 +4,4 @@ use Rattle.page.proofs.four.Goals as goal
 
 pub returns : goal.returns
 unfolding hexes
-returns c = λ j. c.hex-digit.ensures j ∷ c.hex-digit-2.ensures j ∷ c.hex-digit-3.ensures j ∷ c.hex-digit-4.ensures j ∷ []
+returns c = λ j. c.hex_digit.ensures j ∷ c.hex_digit-2.ensures j ∷ c.hex_digit-3.ensures j ∷ c.hex_digit-4.ensures j ∷ []

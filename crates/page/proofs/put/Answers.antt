@@ -10,4 +10,4 @@ returns c =
     let s = c.args.s.now in
     let n = c.min-n.result in
     let all : n - 0 ≡ n = omega arith in
-    puts-part c.args.page.now s c.copy-from-slice.new.self c.args.at n _ (omega arith) (omega arith) (c.copy-from-slice.ensures.after ∙ ap (λ m. take m s) all)
+    puts-part c.args.page.now s c.copy_from_slice.new.self c.args.at n _ (omega arith) (omega arith) (c.copy_from_slice.ensures.after ∙ ap (λ m. take m s) all)

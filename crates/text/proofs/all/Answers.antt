@@ -1,4 +1,4 @@
-use Rattle.std.proofs.Common.{◌≡◌, eqb, length, ap, ◌∙◌}
+use Rattle.std.proofs.Common.{eqb, length, ap, ◌∙◌}
 use Rattle.text.specs.Bytes.{passes_as}
 use Rattle.text.proofs.Runs.{every-is}
 use Rattle.text.proofs.all.Goals as goal

@@ -7,22 +7,22 @@ use Rattle.head.specs.Loops.{with_line, lines_after, first_line, and_then, added
 use Rattle.head.proofs.Scans.{line-le}
 use Rattle.head.proofs.Turns.{gather_none, gather-full, gather-turn}
 use Rattle.head.proofs.fields.read_fields.Goals as goal
-use Rattle.head.proofs.fields.read_fields.Goals.{After-add-line}
+use Rattle.head.proofs.fields.read_fields.Goals.{After-add_line}
 
 pub loop-done-init : goal.loop-done-init
 loop-done-init c = (c.requires, refl)
 
-pub overflow-sub-body : goal.overflow-sub-body
-overflow-sub-body c = omega (arith, c.loop-done.invariant.0)
+pub overflow_sub-body : goal.overflow_sub-body
+overflow_sub-body c = omega (arith, c.loop-done.invariant.0)
 
-pub overflow-sub-body-2 : goal.overflow-sub-body-2
-overflow-sub-body-2 c = omega (arith, c.loop-done.invariant.0)
+pub overflow_sub-body-2 : goal.overflow_sub-body-2
+overflow_sub-body-2 c = omega (arith, c.loop-done.invariant.0)
 
 pub returns-then-body-end-lt2 : goal.returns-then-body-end-lt2
-returns-then-body-end-lt2 c = sym (gather_none c.args.body.now c.loop-done.end (64 - c.loop-done.-done) (table c.loop-done.fields) c.if-body-end-lt2.true) ∙ c.loop-done.invariant.1
+returns-then-body-end-lt2 c = sym (gather_none c.args.body.now c.loop-done.end (64 - c.loop-done._done) (table c.loop-done.fields) c.if-body-end-lt2.true) ∙ c.loop-done.invariant.1
 
 -- what one line adds
-turn : (c : After-add-line) (n : ℕ) → n ≡ line_length (take (length c.args.body.now - (c.loop-done.end + 2)) (drop (c.loop-done.end + 2) c.args.body.now)) → gathered (table c.loop-done.fields) (fields_of (64 - c.loop-done.-done) (c.loop-done.end + 2) (lines_after (drop c.loop-done.end c.args.body.now))) ≡ and_then (added (is_some c.add-line.result) (c.loop-done.end + 2) (table c.add-line.new.fields)) (λ t. gathered t (fields_of (64 - c.loop-done.-done - 1) (c.loop-done.end + 2 + n + 2) (lines_after (drop (c.loop-done.end + 2 + n) c.args.body.now))))
+turn : (c : After-add_line) (n : ℕ) → n ≡ line_length (take (length c.args.body.now - (c.loop-done.end + 2)) (drop (c.loop-done.end + 2) c.args.body.now)) → gathered (table c.loop-done.fields) (fields_of (64 - c.loop-done._done) (c.loop-done.end + 2) (lines_after (drop c.loop-done.end c.args.body.now))) ≡ and_then (added (is_some c.add_line.result) (c.loop-done.end + 2) (table c.add_line.new.fields)) (λ t. gathered t (fields_of (64 - c.loop-done._done - 1) (c.loop-done.end + 2 + n + 2) (lines_after (drop (c.loop-done.end + 2 + n) c.args.body.now))))
 turn c n is =
     let xs = c.args.body.now in
     let at = c.loop-done.end + 2 in
@@ -30,43 +30,43 @@ turn c n is =
     let t = table c.loop-done.fields in
     let back : n ≡ at + n - at = omega arith in
     let line : first_line rest ≡ take (at + n - at) (drop at xs) = ap (λ m. take m rest) (sym is ∙ back) ∙ ap (take (at + n - at)) (take_rest xs at) in
-    gather-turn xs (64 - c.loop-done.-done) c.loop-done.end n t _ c.if-body-end-lt2.false (omega (arith, c.loop-done-test.true)) is (omega (arith, is, line-le rest)) (c.add-line.ensures.value ∙ ap (λ l. with_line t at (field_of at l)) line)
+    gather-turn xs (64 - c.loop-done._done) c.loop-done.end n t _ c.if-body-end-lt2.false (omega (arith, c.loop-done-test.true)) is (omega (arith, is, line-le rest)) (c.add_line.ensures.value ∙ ap (λ l. with_line t at (field_of at l)) line)
 
 within : (xs : List ℕ) (at n : ℕ) → at ≤ length xs → n ≡ line_length (take (length xs - at) (drop at xs)) → at + n ≤ length xs
 within xs at n h is = omega (arith, is, line-le (take (length xs - at) (drop at xs)), ap length (take_rest xs at), length-drop at xs)
 
-pub returns-in-default : goal.returns-in-default
-returns-in-default c =
+pub returns-in_default : goal.returns-in_default
+returns-in_default c =
     let at = c.loop-done.end + 2 in
     let end = at + line_length (take (length c.args.body.now - at) (drop at c.args.body.now)) in
-    sym (ap (λ r. and_then (added (is_some r) at (table c.add-line.new.fields)) (λ t. gathered t (fields_of (64 - c.loop-done.-done - 1) (end + 2) (lines_after (drop end c.args.body.now))))) c.in-default.is)
-    ∙ sym (turn (goal.at.returns-in-default c).After-add-line _ refl)
+    sym (ap (λ r. and_then (added (is_some r) at (table c.add_line.new.fields)) (λ t. gathered t (fields_of (64 - c.loop-done._done - 1) (end + 2) (lines_after (drop end c.args.body.now))))) c.in_default.is)
+    ∙ sym (turn (goal.at.returns-in_default c).After-add_line _ refl)
     ∙ c.loop-done.invariant.1
 
-pub overflow-add-end : goal.overflow-add-end
-overflow-add-end c = omega (arith, within c.args.body.now (c.loop-done.end + 2) c.in-Some.n (omega (arith, c.if-body-end-lt2.false)) c.in-Some.ensures.long)
+pub overflow_add-end : goal.overflow_add-end
+overflow_add-end c = omega (arith, within c.args.body.now (c.loop-done.end + 2) c.in-Some.n (omega (arith, c.if-body-end-lt2.false)) c.in-Some.ensures.long)
 
 pub loop-done-preserved : goal.loop-done-preserved
 loop-done-preserved c =
     let xs = c.args.body.now in
     let at = c.loop-done.end + 2 in
     let end = at + c.in-Some.n in
-    let now' = table c.add-line.new.fields in
-    let less : 64 - (c.loop-done.-done + 1) ≡ 64 - c.loop-done.-done - 1 = omega arith in
+    let now' = table c.add_line.new.fields in
+    let less : 64 - (c.loop-done._done + 1) ≡ 64 - c.loop-done._done - 1 = omega arith in
     let rest = lines_after (drop end xs) in (
       within xs at c.in-Some.n (omega (arith, c.if-body-end-lt2.false)) c.in-Some.ensures.long,
       ap (λ m. gathered now' (fields_of m (end + 2) rest)) less
-          ∙ sym (ap (λ r. and_then (added (is_some r) at now') (λ t. gathered t (fields_of (64 - c.loop-done.-done - 1) (end + 2) rest))) c.in-Some.is)
-          ∙ sym (turn (goal.at.loop-done-preserved c).After-add-line c.in-Some.n c.in-Some.ensures.long)
+          ∙ sym (ap (λ r. and_then (added (is_some r) at now') (λ t. gathered t (fields_of (64 - c.loop-done._done - 1) (end + 2) rest))) c.in-Some.is)
+          ∙ sym (turn (goal.at.loop-done-preserved c).After-add_line c.in-Some.n c.in-Some.ensures.long)
           ∙ c.loop-done.invariant.1,
     )
 
 pub returns-then-body-end-lt2-2 : goal.returns-then-body-end-lt2-2
-returns-then-body-end-lt2-2 c = sym (gather_none c.args.body.now c.loop-done.end (64 - c.loop-done.-done) (table c.loop-done.fields) c.if-body-end-lt2-2.true) ∙ c.loop-done.invariant.1
+returns-then-body-end-lt2-2 c = sym (gather_none c.args.body.now c.loop-done.end (64 - c.loop-done._done) (table c.loop-done.fields) c.if-body-end-lt2-2.true) ∙ c.loop-done.invariant.1
 
 pub returns-else-body-end-lt2-2 : goal.returns-else-body-end-lt2-2
 returns-else-body-end-lt2-2 c =
-    let none : 64 - c.loop-done.-done ≡ 0 = omega (arith, c.loop-done-test.false) in
+    let none : 64 - c.loop-done._done ≡ 0 = omega (arith, c.loop-done-test.false) in
     sym (gather-full c.args.body.now c.loop-done.end (table c.loop-done.fields) c.if-body-end-lt2-2.false)
     ∙ ap (λ m. gathered (table c.loop-done.fields) (fields_of m (c.loop-done.end + 2) (lines_after (drop c.loop-done.end c.args.body.now)))) (sym none)
     ∙ c.loop-done.invariant.1

@@ -5,4 +5,4 @@ use Rattle.head.specs.Loops.{lines_after}
 use Rattle.head.proofs.fields.read_fields.Given as goal
 
 abbrev pub invariant-loop-done : goal.invariant-loop-done
-invariant-loop-done l = (l.end ≤ length l.body) × (gathered (table l.fields) (fields_of (64 - l.-done) (l.end + 2) (lines_after (drop l.end l.body))) ≡ gathered empty (fields_of 64 (l.first + 2) (lines_after (drop l.first l.body))))
+invariant-loop-done l = (l.end ≤ length l.body) × (gathered (table l.fields) (fields_of (64 - l._done) (l.end + 2) (lines_after (drop l.end l.body))) ≡ gathered empty (fields_of 64 (l.first + 2) (lines_after (drop l.first l.body))))

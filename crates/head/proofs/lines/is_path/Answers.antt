@@ -1,4 +1,4 @@
-use Rattle.std.proofs.Common.{◌≡◌, ◌≤◌, true, ◌&&◌, eqb, leb, length, get_or, sym, ap, ◌∙◌, inl, inr, arith}
+use Rattle.std.proofs.Common.{◌&&◌, eqb, leb, length, get_or, sym, ap, ◌∙◌, inl, inr, arith}
 use Rattle.std.proofs.lemmas.List.{get_or_past}
 use Rattle.std.proofs.lemmas.Bool.{and_left, and_right, ne_eqb, eq-eqb, lt-leb, le-leb}
 use Rattle.text.specs.Bytes.{visible, every}
@@ -19,5 +19,5 @@ pub returns : goal.returns
 returns c =
     let p = c.args.p.now in
     c.all.ensures
-    ∙ ap (λ t. t && every visible p) (sym (le-leb (length p) 128 c.if-p-gt-MOST-PATH.false))
+    ∙ ap (λ t. t && every visible p) (sym (le-leb (length p) 128 c.if-p-gt-MOST_PATH.false))
     ∙ ap (λ t. t && (leb (length p) 128 && every visible p)) (sym (eq-eqb (get_or p 0 0) 47 c.if-p-ne47.false))

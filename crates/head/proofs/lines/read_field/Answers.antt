@@ -26,13 +26,13 @@ returns-then-n-eq0 c =
 pub returns-then-rest-n-ne58 : goal.returns-then-rest-n-ne58
 returns-then-rest-n-ne58 c = record { value = no-colon c.args.at c.lead-n.result c.args.rest.now c.lead-n.ensures.value c.if-rest-n-ne58.true; long = tt }
 
-pub returns-then-not-is-end : goal.returns-then-not-is-end
-returns-then-not-is-end c =
+pub returns-then-not-is_end : goal.returns-then-not-is_end
+returns-then-not-is_end c =
     let s = c.args.rest.now in
     let n = c.lead-n.result in
     let m = c.lead-m.result in
     let after = take (length s - (n + 1)) (drop (n + 1) s) in
-    let stops = ap ends_here (sym (take_rest after m)) ∙ sym c.if-not-is-end.ensures in
+    let stops = ap ends_here (sym (take_rest after m)) ∙ sym c.if-not-is_end.ensures in
     record { value = field-bad c.args.at n m s after c.lead-n.ensures.value c.if-n-eq0.false (omega (arith, c.if-n-rest.false, c.lead-n.ensures.within)) c.if-rest-n-ne58.false (take_rest s (n + 1)) c.lead-m.ensures.value stops; long = tt }
 
 -- a line that ends where its value does, as the code has its parts
@@ -42,17 +42,17 @@ good at n m s value is some lt mark m-is stops v-is =
     let all : m - 0 ≡ m = omega arith in
     field-good at n m s after value is some lt mark (take_rest s (n + 1)) m-is (ap ends_here (sym (take_rest after m)) ∙ sym stops) (v-is ∙ ap (λ k. trimmed (take k after)) all)
 
-pub returns-then-value-gt-MOST-VALUE : goal.returns-then-value-gt-MOST-VALUE
-returns-then-value-gt-MOST-VALUE c =
-    let g = good c.args.at c.lead-n.result c.lead-m.result c.args.rest.now c.trim-value.result.now c.lead-n.ensures.value c.if-n-eq0.false (omega (arith, c.if-n-rest.false, c.lead-n.ensures.within)) c.if-rest-n-ne58.false c.lead-m.ensures.value c.if-not-is-end.ensures c.trim-value.ensures in
-    record { value = sym (g.1 ∙ cond-false _ _ _ (lt-leb _ 4096 c.if-value-gt-MOST-VALUE.true)); long = tt }
+pub returns-then-value-gt-MOST_VALUE : goal.returns-then-value-gt-MOST_VALUE
+returns-then-value-gt-MOST_VALUE c =
+    let g = good c.args.at c.lead-n.result c.lead-m.result c.args.rest.now c.trim-value.result.now c.lead-n.ensures.value c.if-n-eq0.false (omega (arith, c.if-n-rest.false, c.lead-n.ensures.within)) c.if-rest-n-ne58.false c.lead-m.ensures.value c.if-not-is_end.ensures c.trim-value.ensures in
+    record { value = sym (g.1 ∙ cond-false _ _ _ (lt-leb _ 4096 c.if-value-gt-MOST_VALUE.true)); long = tt }
 
 pub returns : goal.returns
 returns c =
-    let g = good c.args.at c.lead-n.result c.lead-m.result c.args.rest.now c.trim-value.result.now c.lead-n.ensures.value c.if-n-eq0.false (omega (arith, c.if-n-rest.false, c.lead-n.ensures.within)) c.if-rest-n-ne58.false c.lead-m.ensures.value c.if-not-is-end.ensures c.trim-value.ensures in
+    let g = good c.args.at c.lead-n.result c.lead-m.result c.args.rest.now c.trim-value.result.now c.lead-n.ensures.value c.if-n-eq0.false (omega (arith, c.if-n-rest.false, c.lead-n.ensures.within)) c.if-rest-n-ne58.false c.lead-m.ensures.value c.if-not-is_end.ensures c.trim-value.ensures in
     let n = c.lead-n.result in
     let all : n - 0 ≡ n = omega arith in
     record {
-      value = ap (λ k. Some (record { at = c.args.at; name = take k c.args.rest.now; value = c.trim-value.result.now })) all ∙ sym (g.1 ∙ cond-true _ _ _ (le-leb _ 4096 c.if-value-gt-MOST-VALUE.false));
+      value = ap (λ k. Some (record { at = c.args.at; name = take k c.args.rest.now; value = c.trim-value.result.now })) all ∙ sym (g.1 ∙ cond-true _ _ _ (le-leb _ 4096 c.if-value-gt-MOST_VALUE.false));
       long = sym g.0;
     }

@@ -1,4 +1,4 @@
-use Rattle.std.proofs.Common.{◌≡◌, ℕ, ◌+◌, ◌-◌, ◌≤◌, min, List, length, take, Some, None, sym, refl, ap, ◌∙◌, inl, inr, arith, length-take}
+use Rattle.std.proofs.Common.{◌≡◌, ℕ, ◌-◌, min, List, length, take, sym, ap, ◌∙◌, inl, inr, arith, length-take}
 use Rattle.std.proofs.lemmas.List.{take_all}
 use Rattle.std.proofs.lemmas.Bool.{cases_lt, cond-true, cond-false, lt-ltb, le-ltb}
 use Rattle.head.specs.Marks.{head_mark, mark_from}
@@ -21,22 +21,22 @@ returns-in-Some c =
       within = omega (arith, c.in-Some.ensures.within, ap length part, length-take 8192 xs);
     }
 
-pub returns-then-input-lt-MOST-HEAD : goal.returns-then-input-lt-MOST-HEAD
+pub returns-then-input-lt-MOST_HEAD : goal.returns-then-input-lt-MOST_HEAD
 unfolding end_of
-returns-then-input-lt-MOST-HEAD c =
+returns-then-input-lt-MOST_HEAD c =
     let xs = c.args.input.now in
     let part = front-part xs _ c.min.ensures in
     record {
-      value = sym (cond-true _ _ _ (lt-ltb (length xs) 8192 c.if-input-lt-MOST-HEAD.true)) ∙ ap (in_time xs) (c.in-None.ensures.value ∙ ap (mark_from head_mark 0) part);
+      value = sym (cond-true _ _ _ (lt-ltb (length xs) 8192 c.if-input-lt-MOST_HEAD.true)) ∙ ap (in_time xs) (c.in-None.ensures.value ∙ ap (mark_from head_mark 0) part);
       within = tt;
     }
 
-pub returns-else-input-lt-MOST-HEAD : goal.returns-else-input-lt-MOST-HEAD
+pub returns-else-input-lt-MOST_HEAD : goal.returns-else-input-lt-MOST_HEAD
 unfolding end_of
-returns-else-input-lt-MOST-HEAD c =
+returns-else-input-lt-MOST_HEAD c =
     let xs = c.args.input.now in
     let part = front-part xs _ c.min.ensures in
     record {
-      value = sym (cond-false _ _ _ (le-ltb (length xs) 8192 c.if-input-lt-MOST-HEAD.false)) ∙ ap (in_time xs) (c.in-None.ensures.value ∙ ap (mark_from head_mark 0) part);
+      value = sym (cond-false _ _ _ (le-ltb (length xs) 8192 c.if-input-lt-MOST_HEAD.false)) ∙ ap (in_time xs) (c.in-None.ensures.value ∙ ap (mark_from head_mark 0) part);
       within = tt;
     }

@@ -3,4 +3,4 @@ use Rattle.packet.proofs.protocols.read_protocols.Goals as goal
 
 pub returns : goal.returns
 unfolding protocols_of
-returns c = c.read-ids.ensures
+returns c = c.read_ids.ensures

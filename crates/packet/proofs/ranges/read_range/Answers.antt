@@ -1,12 +1,8 @@
-use Rattle.std.proofs.Common.{◌≡◌, ℕ, ◌+◌, ◌-◌, ◌<◌, true, false, cond, List, map, length, get_or, take, drop, Some, None, codes, sym, refl, ap, ◌∙◌, arith, length-take}
-use Rattle.std.proofs.lemmas.List.{take_rest, length-map}
-use Rattle.std.proofs.lemmas.Slice.Eq.{bytes_eq-Decides}
-use Rattle.std.proofs.lemmas.Bool.{cond-true, cond-false, lt-leb, le-leb, cases_Bool}
-use Rattle.std.specs.Char.{to_ascii_lowercase}
-use Rattle.std.specs.Str.{bytes_eq}
+use Rattle.std.proofs.Common.{◌-◌, length, take, drop, codes, sym, ap, ◌∙◌, arith, length-take}
+use Rattle.std.proofs.lemmas.List.{take_rest}
+use Rattle.std.proofs.lemmas.Bool.{cond-true, cond-false, lt-leb, le-leb}
 use Rattle.std.specs.List.{prefix_len}
 use Rattle.text.specs.Bytes.{blank}
-use Rattle.text.specs.Words.{same_letters}
 use Rattle.packet.specs.Ranges.{span_of, after_blanks, range_of}
 use Rattle.packet.proofs.Letters.{letters-long}
 use Rattle.packet.proofs.ranges.read_range.Goals as goal
@@ -17,9 +13,9 @@ returns-then-value-lt5 c =
     let v = c.args.value.now in
     sym (cond-false _ _ _ (letters-long (take 5 v) (codes "bytes") (λ e. omega (arith, length-take 5 v, c.if-value-lt5.true))))
 
-pub returns-then-not-same-letters : goal.returns-then-not-same-letters
+pub returns-then-not-same_letters : goal.returns-then-not-same_letters
 unfolding range_of
-returns-then-not-same-letters c = sym (cond-false _ _ _ (sym c.if-not-same-letters.ensures))
+returns-then-not-same_letters c = sym (cond-false _ _ _ (sym c.if-not-same_letters.ensures))
 
 pub returns-then-blanks-eq0 : goal.returns-then-blanks-eq0
 unfolding range_of
@@ -29,7 +25,7 @@ returns-then-blanks-eq0 c =
     let is = c.lead-blanks.ensures.value ∙ ap (prefix_len blank) (take_rest v 5) in
     sym (cond-false _ _ _ (lt-leb 1 n (omega (arith, c.if-blanks-eq0.true))))
     ∙ ap (λ m. after_blanks m (drop 5 v)) is
-    ∙ sym (cond-true _ _ _ (sym c.if-not-same-letters.ensures))
+    ∙ sym (cond-true _ _ _ (sym c.if-not-same_letters.ensures))
 
 pub returns : goal.returns
 unfolding range_of
@@ -37,8 +33,8 @@ returns c =
     let v = c.args.value.now in
     let n = c.lead-blanks.result in
     let is = c.lead-blanks.ensures.value ∙ ap (prefix_len blank) (take_rest v 5) in
-    c.read-span.ensures
+    c.read_span.ensures
     ∙ ap span_of (take_rest (take (length v - 5) (drop 5 v)) n ∙ ap (drop n) (take_rest v 5))
     ∙ sym (cond-true _ _ _ (le-leb 1 n (omega (arith, c.if-blanks-eq0.false))))
     ∙ ap (λ m. after_blanks m (drop 5 v)) is
-    ∙ sym (cond-true _ _ _ (sym c.if-not-same-letters.ensures))
+    ∙ sym (cond-true _ _ _ (sym c.if-not-same_letters.ensures))

@@ -1,31 +1,29 @@
-use Rattle.std.proofs.Common.{◌≡◌, Some, None, sym, refl, ap, ◌∙◌}
-use Rattle.std.specs.Option.{option_map}
-use Rattle.text.specs.Numbers.{decimal_of}
-use Rattle.packet.specs.Ranges.{before_mark, total_of, last_of, first_of, span_of}
+use Rattle.std.proofs.Common.{ap, ◌∙◌}
+use Rattle.packet.specs.Ranges.{total_of, last_of, first_of, span_of}
 use Rattle.packet.proofs.ranges.read_span.Goals as goal
 
-pub returns-in-err-first : goal.returns-in-err-first
+pub returns-in_err-first : goal.returns-in_err-first
 unfolding span_of
-returns-in-err-first c = c.from-residual.ensures ∙ ap first_of c.in-err-first.ensures
+returns-in_err-first c = c.from_residual.ensures ∙ ap first_of c.in_err-first.ensures
 
-pub returns-in-err-last : goal.returns-in-err-last
+pub returns-in_err-last : goal.returns-in_err-last
 unfolding span_of
-returns-in-err-last c =
-    c.from-residual-in-err-last.ensures
-    ∙ ap (last_of c.in-ok-first.first.number) c.in-err-last.ensures
-    ∙ ap first_of c.in-ok-first.ensures
+returns-in_err-last c =
+    c.from_residual-in_err-last.ensures
+    ∙ ap (last_of c.in_ok-first.first.number) c.in_err-last.ensures
+    ∙ ap first_of c.in_ok-first.ensures
 
-pub returns-in-err-total : goal.returns-in-err-total
+pub returns-in_err-total : goal.returns-in_err-total
 unfolding span_of
-returns-in-err-total c =
-    c.from-residual-in-err-total.ensures
-    ∙ ap (total_of c.in-ok-first.first.number c.in-ok-last.last.number) c.in-err-total.ensures
-    ∙ ap (last_of c.in-ok-first.first.number) c.in-ok-last.ensures
-    ∙ ap first_of c.in-ok-first.ensures
+returns-in_err-total c =
+    c.from_residual-in_err-total.ensures
+    ∙ ap (total_of c.in_ok-first.first.number c.in_ok-last.last.number) c.in_err-total.ensures
+    ∙ ap (last_of c.in_ok-first.first.number) c.in_ok-last.ensures
+    ∙ ap first_of c.in_ok-first.ensures
 
 pub returns : goal.returns
 unfolding span_of
 returns c =
-    ap (total_of c.in-ok-first.first.number c.in-ok-last.last.number) c.in-ok-total.ensures
-    ∙ ap (last_of c.in-ok-first.first.number) c.in-ok-last.ensures
-    ∙ ap first_of c.in-ok-first.ensures
+    ap (total_of c.in_ok-first.first.number c.in_ok-last.last.number) c.in_ok-total.ensures
+    ∙ ap (last_of c.in_ok-first.first.number) c.in_ok-last.ensures
+    ∙ ap first_of c.in_ok-first.ensures
