@@ -1,9 +1,9 @@
 -- A slot's pages handed over to a row: the meaning after it, and the facts that go on holding.
-use Rattle.std.proofs.Common.{◌≡◌, ℕ, ◌+◌, ◌-◌, ◌*◌, ◌/◌, ◌%◌, ◌<◌, ◌≤◌, Bool, true, false, cond, ◌&&◌, ◌||◌, ltb, leb, ◌⊎◌, List, [], ◌∷◌, ◌++◌, length, get_or, take, drop, set, Some, None, vec_items, vec_len, Option, sym, refl, ap, ◌∙◌, subst, inl, inr, ⊎_elim, arith, get_or-set_other, get_or-set_same}
+use Rattle.std.proofs.Common.{◌≡◌, ℕ, ◌+◌, ◌*◌, ◌<◌, ◌≤◌, Bool, true, cond, ◌&&◌, ◌||◌, ltb, leb, ◌⊎◌, List, [], ◌++◌, length, get_or, take, set, Some, None, vec_items, sym, ap, ◌∙◌, subst, inl, inr, ⊎_elim, arith, get_or-set_other, get_or-set_same}
 use Rattle.std.specs.Str.{bytes_eq}
-use Rattle.std.proofs.lemmas.Bool.{cond-true, cond-false, lt-ltb, le-ltb, ltb-true, ltb-false, and_left, and_right, and_parts, and_from, or_left, cases_lt, cases_eq, cases_Bool, leb-true}
+use Rattle.std.proofs.lemmas.Bool.{cond-true, cond-false, lt-ltb, ltb-true, ltb-false, and_left, and_parts, and_from, or_left, cases_eq, cases_Bool, leb-true}
 use Rattle.std.proofs.lemmas.List.{length-set, take_all, drop_all, length-take-le}
-use Rattle.store.specs.Meaning.{Meaning, Published, nameable}
+use Rattle.store.specs.Meaning.{Published, nameable}
 use Rattle.page_store.specs.declared.chain.Chain.{Chain}
 use Rattle.page_store.specs.declared.name.Name.{Name}
 use Rattle.page_store.specs.declared.state.PageStore.{PageStore}
@@ -11,11 +11,11 @@ use Rattle.page_store.specs.Bytes.{content}
 use Rattle.page_store.specs.Names.{name_of, vacant, position, standing, target, Short}
 use Rattle.page_store.specs.Pages.{count_of, pages_of, Moved}
 use Rattle.page_store.specs.State.{length_of, Sparing, Nothing, Single}
-use Rattle.page_store.specs.Store.{pages_at, owned, bytes_at, entry, published_at, fits_under, meaning_of, Publishing}
+use Rattle.page_store.specs.Store.{pages_at, owned, bytes_at, published_at, fits_under, meaning_of, Publishing}
 use Rattle.page_store.specs.Chains.{length-follow}
-use Rattle.page_store.specs.Rows.{position-same, position-is, position_at, position-before, position-within, vacancy, differ, agree}
+use Rattle.page_store.specs.Rows.{position-same, position-is, position_at, position-before, vacancy, differ, agree}
 use Rattle.page_store.specs.Tables.{count-is}
-use Rattle.page_store.specs.Stores.{held_in, held_out, held_same, at_entry, entry-below}
+use Rattle.page_store.specs.Stores.{held_in, held_same, at_entry, entry-below}
 
 -- what the row to publish under held before: the name, or none while the name stands nowhere
 pub record Own (names : List Name) (n : List ℕ) (e : ℕ) : Type 0 where

@@ -1,5 +1,5 @@
 -- A new page store is empty.
-use Rattle.std.proofs.Common.{◌≡◌, ℕ, zero, suc, ◌+◌, ◌*◌, ◌%◌, ◌<◌, ◌≤◌, Bool, true, false, cond, ◌&&◌, eqb, ltb, leb, ◌⊎◌, List, [], ◌∷◌, length, get_or, replicate, Some, None, vec_items, vec_len, sym, refl, ap, ◌∙◌, subst, inl, inr, ⊎_elim, arith}
+use Rattle.std.proofs.Common.{◌≡◌, ℕ, zero, suc, ◌+◌, ◌*◌, ◌%◌, ◌≤◌, true, false, ◌&&◌, eqb, ltb, leb, List, [], length, get_or, replicate, Some, None, vec_items, vec_len, sym, refl, ap, ◌∙◌, subst, ⊎_elim, arith}
 use Rattle.std.specs.Str.{bytes_eq}
 use Rattle.std.proofs.lemmas.Bool.{cond-false, le-ltb, le-leb, eq-eqb, and_from, and_left, and_right, cases_Bool, cases_lt}
 use Rattle.std.proofs.lemmas.List.{get_or-replicate}
@@ -8,10 +8,10 @@ use Rattle.page_store.specs.declared.chain.Chain.{Chain}
 use Rattle.page_store.specs.declared.name.Name.{Name}
 use Rattle.page_store.specs.declared.state.PageStore.{PageStore}
 use Rattle.page_store.specs.Bytes.{content}
-use Rattle.page_store.specs.Names.{name_of, vacant, position, Short}
+use Rattle.page_store.specs.Names.{vacant, position, Short}
 use Rattle.page_store.specs.Pages.{count_of}
-use Rattle.page_store.specs.State.{length_of, Sparing, Nothing, Single}
-use Rattle.page_store.specs.Store.{pages_at, owned, entry, published_at, meaning_of, Empty, fillable}
+use Rattle.page_store.specs.State.{Sparing, Nothing, Single}
+use Rattle.page_store.specs.Store.{pages_at, owned, entry, published_at, Empty, fillable}
 use Rattle.page_store.specs.Rows.{differ}
 use Rattle.page_store.proofs.Handing.{not-empty}
 use Rattle.page_store.specs.Stores.{held_in, held_out}

@@ -1,8 +1,8 @@
 -- A table stays sound when pages go from one owner to another.
-use Rattle.std.specs.Prelude.{◌≡◌, ℕ, zero, suc, ◌+◌, ◌-◌, ◌<◌, ◌≤◌, Bool, true, false, cond, ◌⊎◌, List, [], ◌∷◌, ◌++◌, length, take, drop, set, ◌≢◌, nat_lt, slice_index, slice_index_or, slice_set, refl}
-use Rattle.std.proofs.Common.{sym, ap, subst, ◌∙◌, inl, inr, ⊎_elim, arith, add-zero, get_or-set_same, get_or-set_other}
+use Rattle.std.specs.Prelude.{◌≡◌, ℕ, zero, suc, ◌+◌, ◌-◌, ◌<◌, ◌≤◌, Bool, true, false, cond, List, [], ◌++◌, length, take, drop, set, ◌≢◌, nat_lt, slice_index, slice_index_or, slice_set, refl}
+use Rattle.std.proofs.Common.{sym, ap, subst, ◌∙◌, ⊎_elim, arith, add-zero, get_or-set_same, get_or-set_other}
 use Rattle.std.proofs.lemmas.Bool.{ltb-true, cond-false, cases_Bool, cases_eq, cases_lt}
-use Rattle.std.proofs.lemmas.List.{append-nil, take-append-drop, length-append, length-take, length-drop, get_or_append_left, get_or-append_right, get_or-take, get_or-drop, length-set, get_or_past}
+use Rattle.std.proofs.lemmas.List.{append-nil, take-append-drop, get_or-append_right, get_or-take, get_or-drop, length-set, get_or_past}
 use Rattle.page_store.specs.declared.chain.Chain.{Chain}
 use Rattle.page_store.specs.Pages.{follow, occurs, total, blank, chain_of, count_of, pages_of, Once, Whole, Tails, Moved, Movable}
 use Rattle.page_store.specs.Chains.{occurs-append, occurs-get_or, places-differ, total-ge, total-ge-two, total-move, length-follow, follow-other, follow-link, take-follow, drop-follow, get_or-follow-next}

@@ -1,5 +1,5 @@
 -- Which pages an owner has, in order, and when a table of them is sound.
-use Rattle.std.specs.Prelude.{◌≡◌, ℕ, zero, suc, ◌+◌, ◌-◌, ◌*◌, ◌%◌, ◌<◌, ◌≤◌, cond, List, [], ◌∷◌, ◌++◌, length, take, drop, ◌==◌, ◌≢◌, nat_lt, slice_index, slice_index_or}
+use Rattle.std.specs.Prelude.{◌≡◌, ℕ, zero, suc, ◌+◌, ◌-◌, ◌*◌, ◌%◌, ◌<◌, ◌≤◌, cond, List, [], ◌∷◌, ◌++◌, take, drop, ◌==◌, ◌≢◌, nat_lt, slice_index, slice_index_or}
 use Rattle.page_store.specs.declared.chain.Chain.{Chain}
 
 -- n pages from page p on: each page's link names the one after it

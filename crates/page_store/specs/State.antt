@@ -1,9 +1,9 @@
 -- Facts that hold of every page store.
-use Rattle.std.specs.Prelude.{◌≡◌, ℕ, ◌+◌, ◌*◌, ◌<◌, ◌≤◌, List, [], length, get_or, slice_index, slice_index_or}
+use Rattle.std.specs.Prelude.{◌≡◌, ℕ, ◌+◌, ◌*◌, ◌<◌, ◌≤◌, List, get_or, slice_index, slice_index_or}
 use Rattle.page_store.specs.declared.chain.Chain.{Chain}
 use Rattle.page_store.specs.declared.name.Name.{Name}
 use Rattle.page_store.specs.Names.{name_of, vacant}
-use Rattle.page_store.specs.Pages.{count_of, Fewest}
+use Rattle.page_store.specs.Pages.{count_of}
 
 -- how many bytes a slot (0 to 15) or a name's row (from 16 on) holds
 abbrev pub length_of : List ℕ → ℕ → ℕ

@@ -1,5 +1,5 @@
 -- What a page store means, and its own account of each change, to the last byte of the region.
-use Rattle.std.specs.Prelude.{◌≡◌, ℕ, ◌+◌, ◌-◌, ◌*◌, ◌%◌, ◌<◌, ◌≤◌, Bool, true, false, cond, ◌&&◌, ◌||◌, List, [], ◌++◌, length, Some, None, vec_items, vec_len, Option, ◌==◌, ◌≢◌, nat_le, nat_lt, slice_index_or, slice_set}
+use Rattle.std.specs.Prelude.{◌≡◌, ℕ, ◌+◌, ◌-◌, ◌*◌, ◌%◌, ◌<◌, ◌≤◌, Bool, cond, ◌&&◌, ◌||◌, List, [], ◌++◌, length, Some, None, vec_items, vec_len, Option, ◌==◌, ◌≢◌, nat_le, nat_lt, slice_index_or, slice_set}
 use Rattle.store.specs.Meaning.{Meaning, Change, nameable}
 use Rattle.store.specs.Meaning.Change.{adding, clearing, publishing}
 use Rattle.page_store.specs.declared.name.Name.{Name}

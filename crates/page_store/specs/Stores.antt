@@ -1,21 +1,19 @@
 -- What a page store's changes do to its meaning.
-use Rattle.std.specs.Prelude.{◌≡◌, ℕ, ◌+◌, ◌-◌, ◌*◌, ◌/◌, ◌%◌, ◌^◌, ◌<◌, ◌≤◌, Bool, true, false, cond, ◌&&◌, ◌||◌, ltb, ◌⊎◌, List, [], ◌∷◌, ◌++◌, length, take, set, Some, None, vec_items, vec_len, Option, ◌≢◌, nat_lt, slice_index, slice_set, refl}
-use Rattle.std.proofs.Common.{sym, ap, subst, ◌∙◌, inl, inr, ⊎_elim, arith, add-zero, get_or-set_same, get_or-set_other}
-use Rattle.std.specs.Str.{bytes_eq}
-use Rattle.std.proofs.lemmas.Bool.{cond-true, cond-false, lt-ltb, le-ltb, ltb-true, ltb-false, and_left, and_right, and_parts, and_from, or_left, or_right, cases_lt, cases_eq, cases_Bool, leb-true}
-use Rattle.std.proofs.lemmas.List.{append-nil, get_or_append_left, length-set, nil_from_length, drop_all, set-get_or, length-append, take_all}
-use Rattle.store.specs.Meaning.{Meaning, Added, Cleared, Published, nameable}
+use Rattle.std.specs.Prelude.{◌≡◌, ℕ, ◌+◌, ◌-◌, ◌*◌, ◌/◌, ◌%◌, ◌^◌, ◌<◌, ◌≤◌, Bool, true, false, cond, ◌&&◌, ◌||◌, ltb, List, [], ◌++◌, length, take, set, Some, None, vec_items, ◌≢◌, nat_lt, slice_index, slice_set, refl}
+use Rattle.std.proofs.Common.{sym, ap, subst, ◌∙◌, ⊎_elim, arith, add-zero, get_or-set_same, get_or-set_other}
+use Rattle.std.proofs.lemmas.Bool.{cond-true, cond-false, lt-ltb, le-ltb, ltb-true, and_left, and_right, and_parts, cases_lt, cases_eq}
+use Rattle.std.proofs.lemmas.List.{append-nil, get_or_append_left, set-get_or}
+use Rattle.store.specs.Meaning.{Added, Cleared, nameable}
 use Rattle.page_store.specs.declared.chain.Chain.{Chain}
 use Rattle.page_store.specs.declared.name.Name.{Name}
 use Rattle.page_store.specs.declared.state.PageStore.{PageStore}
 use Rattle.page_store.specs.Bytes.{place, content, Written}
-use Rattle.page_store.specs.Names.{name_of, vacant, position, standing, target}
-use Rattle.page_store.specs.Pages.{count_of, pages_of, follow, Moved}
+use Rattle.page_store.specs.Names.{position, standing}
+use Rattle.page_store.specs.Pages.{count_of, Moved}
 use Rattle.page_store.specs.State.{length_of, Sparing, Nothing}
-use Rattle.page_store.specs.Store.{pages_at, owned, bytes_at, entry, published_at, room_of, fits_under, meaning_of, Adding, Clearing, Publishing}
+use Rattle.page_store.specs.Store.{pages_at, owned, bytes_at, entry, published_at, room_of, fits_under, meaning_of, Adding, Clearing}
 use Rattle.page_store.specs.Examples.{Two-pages}
 use Rattle.page_store.specs.Moves.{counts-le, moved_none}
-use Rattle.page_store.specs.Rows.{position-same, position-is, position_at, position-before, position-within, vacancy, differ, agree}
 use Rattle.page_store.specs.Tables.{sound-of, count-is}
 use Rattle.page_store.specs.Content.{length-content, written-grown, written-kept}
 

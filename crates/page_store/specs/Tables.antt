@@ -1,7 +1,7 @@
 -- A page table's own facts, as the lemmas take them.
 use Rattle.page_store.specs.declared.table.Table.{Table}
-use Rattle.std.specs.Prelude.{◌≡◌, ℕ, ◌+◌, ◌-◌, ◌*◌, ◌/◌, ◌%◌, ◌<◌, ◌≤◌, min, cond, ◌⊎◌, List, ◌++◌, length, take, ◌==◌, slice_index, slice_index_or}
-use Rattle.std.proofs.Common.{inl, inr, ⊎_elim, subst, sym, ap, ◌∙◌, arith}
+use Rattle.std.specs.Prelude.{◌≡◌, ℕ, ◌+◌, ◌-◌, ◌*◌, ◌/◌, ◌%◌, ◌<◌, ◌≤◌, min, List, ◌++◌, length, take, ◌==◌, slice_index, slice_index_or}
+use Rattle.std.proofs.Common.{⊎_elim, subst, sym, ap, ◌∙◌, arith}
 use Rattle.std.proofs.lemmas.Bool.{cases_eq, cond-true, cond-false, eq-eqb, ne_eqb}
 use Rattle.std.proofs.lemmas.List.{get_or-take, get_or_append_left, get_or-append_right}
 use Rattle.page_store.specs.declared.chain.Chain.{Chain}

@@ -1,8 +1,8 @@
-use Rattle.std.proofs.Common.{◌≡◌, ℕ, ◌+◌, List, length, drop, sym, refl, ap, ◌∙◌, add-zero, arith}
+use Rattle.std.proofs.Common.{◌≡◌, ◌+◌, List, drop, sym, ap, ◌∙◌, add-zero, arith}
 use Rattle.std.proofs.lemmas.List.{drop_all}
 use Rattle.page_store.specs.declared.name.Name.{Name}
 use Rattle.page_store.specs.Names.{position}
-use Rattle.page_store.specs.Rows.{position-more, position_here, position-within}
+use Rattle.page_store.specs.Rows.{position-more, position_here}
 use Rattle.page_store.proofs.name.find.Goals as goal
 
 pub same-requires : goal.same-requires

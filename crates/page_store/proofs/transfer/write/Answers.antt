@@ -1,10 +1,10 @@
-use Rattle.std.proofs.Common.{◌≡◌, ℕ, ◌+◌, ◌-◌, ◌*◌, ◌/◌, ◌%◌, min, List, length, get_or, take, drop, sym, refl, ap, ◌∙◌, subst, add-zero, arith}
+use Rattle.std.proofs.Common.{◌≡◌, ℕ, ◌+◌, ◌-◌, ◌*◌, ◌/◌, ◌%◌, List, length, get_or, take, drop, sym, ap, ◌∙◌, subst, add-zero, arith}
 use Rattle.page_store.specs.Bytes.{Written}
 use Rattle.page_store.specs.Pages.{pages_of}
 use Rattle.std.proofs.lemmas.List.{take_all}
 use Rattle.page_store.specs.Moves.{count-le}
 use Rattle.page_store.specs.Tables.{sound-of, count-is, pages-of, first_below, Piece, piece}
-use Rattle.page_store.specs.Places.{written_none, written_step, read_step}
+use Rattle.page_store.specs.Places.{written_none, written_step}
 use Rattle.page_store.proofs.transfer.write.Goals as goal
 use Rattle.page_store.proofs.transfer.write.Goals.{After-min-n}
 
@@ -13,23 +13,23 @@ turn c =
     piece c.args.table.now c.args.owner c.args.at c.loop-done.done c.min-n.result (length c.args.bytes.now) c.loop-done.page c.requires.owner c.requires.reach.within
     (omega (arith, c.loop-done-test.true)) c.min-n.ensures (c.loop-done.invariant.1 (omega (arith, c.loop-done-test.true)))
 
-pub overflow-add-offset : goal.overflow-add-offset
-overflow-add-offset c = omega (arith, c.requires.reach.within, count-le _ _ _ (sound-of c.args.table.now) c.args.owner c.requires.owner, c.args.table.now.few, c.loop-done.invariant.0)
+pub overflow_add-offset : goal.overflow_add-offset
+overflow_add-offset c = omega (arith, c.requires.reach.within, count-le _ _ _ (sound-of c.args.table.now) c.args.owner c.requires.owner, c.args.table.now.few, c.loop-done.invariant.0)
 
-pub overflow-mul-from : goal.overflow-mul-from
-overflow-mul-from c = omega (arith, (c.loop-done.invariant.1 (omega (arith, c.loop-done-test.true))).1, c.args.table.now.few)
+pub overflow_mul-from : goal.overflow_mul-from
+overflow_mul-from c = omega (arith, (c.loop-done.invariant.1 (omega (arith, c.loop-done-test.true))).1, c.args.table.now.few)
 
-pub overflow-add-from : goal.overflow-add-from
-overflow-add-from c = omega (arith, (c.loop-done.invariant.1 (omega (arith, c.loop-done-test.true))).1, c.args.table.now.few)
+pub overflow_add-from : goal.overflow_add-from
+overflow_add-from c = omega (arith, (c.loop-done.invariant.1 (omega (arith, c.loop-done-test.true))).1, c.args.table.now.few)
 
-pub overflow-add-from-in-loop-done : goal.overflow-add-from-in-loop-done
-overflow-add-from-in-loop-done c = let p = turn (goal.at.overflow-add-from-in-loop-done c).After-min-n in omega (arith, p.ends, p.small)
+pub overflow_add-from-in-loop-done : goal.overflow_add-from-in-loop-done
+overflow_add-from-in-loop-done c = let p = turn (goal.at.overflow_add-from-in-loop-done c).After-min-n in omega (arith, p.ends, p.small)
 
-pub slice-bounds-copy-from-slice-end : goal.slice-bounds-copy-from-slice-end
-slice-bounds-copy-from-slice-end c = let p = turn (goal.at.slice-bounds-copy-from-slice-end c).After-min-n in omega (arith, p.ends, c.requires.region, c.loop-done.auto.region)
+pub slice_bounds-copy_from_slice-end : goal.slice_bounds-copy_from_slice-end
+slice_bounds-copy_from_slice-end c = let p = turn (goal.at.slice_bounds-copy_from_slice-end c).After-min-n in omega (arith, p.ends, c.requires.region, c.loop-done.auto.region)
 
-pub offset-bounds-table-page : goal.offset-bounds-table-page
-offset-bounds-table-page c = omega (arith, (c.loop-done.invariant.1 (omega (arith, c.loop-done-test.true))).1, c.args.table.now.few)
+pub offset_bounds-table-page : goal.offset_bounds-table-page
+offset_bounds-table-page c = omega (arith, (c.loop-done.invariant.1 (omega (arith, c.loop-done-test.true))).1, c.args.table.now.few)
 
 pub bounds-table-page : goal.bounds-table-page
 bounds-table-page c = omega (arith, (c.loop-done.invariant.1 (omega (arith, c.loop-done-test.true))).1, c.args.table.now.few)
@@ -44,14 +44,14 @@ loop-done-preserved c =
     let p = turn (goal.at.loop-done-preserved c).After-min-n in
     let t = c.args.table.now in
     let from = c.loop-done.page * 4096 + (c.args.at + c.loop-done.done) % 4096 in
-    let copied : c.copy-from-slice.new.self ≡ take c.min-n.result (drop c.loop-done.done c.args.bytes.now) =
-    c.copy-from-slice.ensures.after ∙ ap (λ (x : ℕ). take x (drop c.loop-done.done c.args.bytes.now)) (omega arith) in (
+    let copied : c.copy_from_slice.new.self ≡ take c.min-n.result (drop c.loop-done.done c.args.bytes.now) =
+    c.copy_from_slice.ensures.after ∙ ap (λ (x : ℕ). take x (drop c.loop-done.done c.args.bytes.now)) (omega arith) in (
       p.left,
       p.goes,
       written_step t.pages (pages_of t.next t.chains c.args.owner) (pages-of t c.args.owner c.requires.owner)
           c.args.region.now c.args.bytes.now c.loop-done.region c.args.at c.loop-done.done c.min-n.result from
           c.requires.region (omega (arith, c.requires.reach.within, count-is t c.args.owner)) p.left p.fit p.is
-          (from + c.min-n.result - from) c.copy-from-slice.new.self (omega arith) copied p.some c.loop-done.invariant.2,
+          (from + c.min-n.result - from) c.copy_from_slice.new.self (omega arith) copied p.some c.loop-done.invariant.2,
     )
 
 pub returns : goal.returns

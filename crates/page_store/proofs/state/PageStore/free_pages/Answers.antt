@@ -1,4 +1,4 @@
-use Rattle.std.proofs.Common.{◌≡◌, ℕ, ◌+◌, ◌*◌, ◌/◌, length, sym, ap, ◌∙◌, arith}
+use Rattle.std.proofs.Common.{◌≡◌, ℕ, ◌+◌, ◌/◌, length, sym, ap, ◌∙◌, arith}
 use Rattle.page_store.specs.Pages.{total, count_of}
 use Rattle.page_store.specs.Store.{pages_at}
 use Rattle.page_store.specs.Chains.{total-same}

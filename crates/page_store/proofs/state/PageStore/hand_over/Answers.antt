@@ -1,9 +1,9 @@
-use Rattle.std.proofs.Common.{◌≡◌, ℕ, ◌*◌, sym, refl, ap, ◌∙◌}
+use Rattle.std.proofs.Common.{ℕ, ◌*◌, sym, refl, ap, ◌∙◌}
 use Rattle.page_store.proofs.Handing.{can-parts, given, none, freed, others, named, names-kept, held₂, rows₂, sparing₂, short₂, nothing₂, single₂}
 use Rattle.page_store.proofs.state.PageStore.hand_over.Goals as goal
 
-pub invariant-of-self : goal.invariant-of-self
-invariant-of-self c =
+pub invariant_of-self : goal.invariant_of-self
+invariant_of-self c =
     let s = c.args.self.now in
     let k = c.args.slot in
     let e = c.args.row in
@@ -16,25 +16,16 @@ invariant-of-self c =
     let new = c.new.result in
     let name-is = c.new.ensures.name in
     let len_is = c.new.ensures.len in
-    let long = c.new.ensures.long in (
-      s.fills ∙ ap (λ (x : ℕ). 4096 * x) (sym (c.splice-2.ensures.same ∙ c.splice.ensures.same)),
-      (
-        held₂ s k e n can c.requires.row new name-is len_is long a.next a.chains d b.next b.chains f,
-        (
-          rows₂ s k e n can c.requires.row new name-is len_is long a.next a.chains d b.next b.chains f,
-          (
-            sparing₂ s k e n can c.requires.row new name-is len_is long a.next a.chains d b.next b.chains f,
-            (
-              short₂ s k e n can c.requires.row new name-is len_is long a.next a.chains d b.next b.chains f,
-              (
-                nothing₂ s k e n can c.requires.row new name-is len_is long a.next a.chains d b.next b.chains f,
-                (single₂ s k e n can c.requires.row new name-is len_is long a.next a.chains d b.next b.chains f, tt),
-              ),
-            ),
-          ),
-        ),
-      ),
-    )
+    let long = c.new.ensures.long in
+    record {
+      fills = s.fills ∙ ap (λ (x : ℕ). 4096 * x) (sym (c.splice-2.ensures.same ∙ c.splice.ensures.same));
+      held = held₂ s k e n can c.requires.row new name-is len_is long a.next a.chains d b.next b.chains f;
+      rows = rows₂ s k e n can c.requires.row new name-is len_is long a.next a.chains d b.next b.chains f;
+      sparing = sparing₂ s k e n can c.requires.row new name-is len_is long a.next a.chains d b.next b.chains f;
+      short = short₂ s k e n can c.requires.row new name-is len_is long a.next a.chains d b.next b.chains f;
+      nothing = nothing₂ s k e n can c.requires.row new name-is len_is long a.next a.chains d b.next b.chains f;
+      single = single₂ s k e n can c.requires.row new name-is len_is long a.next a.chains d b.next b.chains f;
+    }
 
 pub returns : goal.returns
 returns c =

@@ -1,4 +1,4 @@
-use Rattle.std.proofs.Common.{◌≡◌, ltb, length, sym, ◌∙◌}
+use Rattle.std.proofs.Common.{ltb, length, sym, ◌∙◌}
 use Rattle.std.proofs.lemmas.Bool.{cond-true, cond-false, lt-ltb, le-ltb}
 use Rattle.page_store.specs.Store.{pages_at}
 use Rattle.page_store.specs.Stores.{two-pages}

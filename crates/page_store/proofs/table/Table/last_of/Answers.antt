@@ -1,4 +1,4 @@
-use Rattle.std.proofs.Common.{◌≡◌, ℕ, ◌-◌, get_or, sym, ap, ◌∙◌, arith}
+use Rattle.std.proofs.Common.{ℕ, ◌-◌, get_or, sym, ap, ◌∙◌, arith}
 use Rattle.page_store.specs.Pages.{pages_of}
 use Rattle.page_store.specs.Moves.{tail-page}
 use Rattle.page_store.specs.Tables.{sound-of}

@@ -3,10 +3,10 @@ use Rattle.page_store.specs.declared.chain.Chain.{Chain}
 use Rattle.page_store.proofs.Fresh.{sound-new, at_other}
 use Rattle.page_store.proofs.table.Table.new.Goals as goal
 
-pub invariant-of-result : goal.invariant-of-result
-invariant-of-result c =
+pub invariant_of-result : goal.invariant_of-result
+invariant_of-result c =
     let s = sound-new c.links-next.result c.links-next.ensures.link c.args.pages c.requires.0 c.requires.1 c.links-next.ensures.long in
-    (s.few, (s.links, (s.owners, (s.once, (s.whole, (s.tails, tt))))))
+    record { few = s.few; links = s.links; owners = s.owners; once = s.once; whole = s.whole; tails = s.tails }
 
 pub returns : goal.returns
 returns c = record {

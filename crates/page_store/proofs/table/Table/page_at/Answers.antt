@@ -7,4 +7,4 @@ pub loop-j-init : goal.loop-j-init
 loop-j-init c = head-page _ _ _ (sound-of c.args.self.now) c.args.owner c.requires.0 (omega (arith, c.requires.1))
 
 pub loop-j-preserved : goal.loop-j-preserved
-loop-j-preserved c = next-page _ _ _ (sound-of c.args.self.now) c.args.owner c.loop-j.-j c.loop-j.page c.requires.0 (omega (arith, c.requires.1)) c.loop-j.invariant.0
+loop-j-preserved c = next-page _ _ _ (sound-of c.args.self.now) c.args.owner c.loop-j._j c.loop-j.page c.requires.0 (omega (arith, c.requires.1)) c.loop-j.invariant.0

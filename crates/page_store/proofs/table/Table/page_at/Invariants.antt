@@ -3,4 +3,4 @@ use Rattle.page_store.specs.Pages.{pages_of}
 use Rattle.page_store.proofs.table.Table.page_at.Given as goal
 
 abbrev pub invariant-loop-j : goal.invariant-loop-j
-invariant-loop-j l = (l.page ≡ get_or (pages_of l.self.next l.self.chains l.owner) l.-j 0) × (l.page < l.self.pages)
+invariant-loop-j l = (l.page ≡ get_or (pages_of l.self.next l.self.chains l.owner) l._j 0) × (l.page < l.self.pages)

@@ -1,4 +1,4 @@
-use Rattle.std.proofs.Common.{◌≡◌, ℕ, ◌+◌, ◌-◌, ◌/◌, sym, ap, ◌∙◌, subst, arith}
+use Rattle.std.proofs.Common.{◌≡◌, ℕ, ◌+◌, ◌-◌, ◌/◌, sym, ◌∙◌, subst, arith}
 use Rattle.page_store.specs.Pages.{Moved, count_of}
 use Rattle.page_store.specs.Tables.{start_is}
 use Rattle.page_store.proofs.table.Table.reserve.Goals as goal
@@ -13,7 +13,7 @@ returns c =
     record {
       moved = subst (λ (m : ℕ). Moved t.next t.chains c.args.owner 48 m u.next u.chains) (sym e) d;
       fewest = record { enough = omega (arith, d.more, c.requires.fewest.enough, c.requires.fewest.needed, c.requires.some); needed = omega (arith, d.more, c.requires.fewest.enough, c.requires.fewest.needed, c.requires.some) };
-      first = c.first-page-first.ensures ∙ start_is t c.args.owner c.args.len more u.next u.chains c.requires.owner c.requires.fewest
+      first = c.first_page-first.ensures ∙ start_is t c.args.owner c.args.len more u.next u.chains c.requires.owner c.requires.fewest
           (λ z. omega (arith, c.requires.fewest.enough, c.requires.fewest.needed, c.requires.some)) (omega (arith, d.fewer)) d;
       same = c.splice.ensures.same;
     }

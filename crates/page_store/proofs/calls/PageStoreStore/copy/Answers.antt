@@ -1,4 +1,4 @@
-use Rattle.std.proofs.Common.{◌≡◌, ℕ, ◌+◌, ◌-◌, ◌<◌, ◌≤◌, min, List, ◌++◌, length, get_or, take, drop, Some, None, Ok, Err, Option, sym, refl, ap, ◌∙◌, arith}
+use Rattle.std.proofs.Common.{◌≡◌, ℕ, ◌+◌, ◌-◌, ◌≤◌, min, List, ◌++◌, length, get_or, take, drop, Ok, Option, sym, ap, ◌∙◌, arith}
 use Rattle.std.proofs.lemmas.List.{length-take-le}
 use Rattle.store.specs.Answers.{copied, filled, portion}
 use Rattle.page_store.specs.Bytes.{place}
@@ -6,8 +6,8 @@ use Rattle.page_store.specs.State.{length_of}
 use Rattle.page_store.specs.Store.{published_at, bytes_at, pages_at}
 use Rattle.page_store.specs.Content.{filled_is}
 use Rattle.page_store.specs.Stores.{length-bytes}
-use Rattle.page_store.proofs.store.PageStoreStore.copy.Goals as goal
-use Rattle.page_store.proofs.store.PageStoreStore.copy.Goals.{After-min-n}
+use Rattle.page_store.proofs.calls.PageStoreStore.copy.Goals as goal
+use Rattle.page_store.proofs.calls.PageStoreStore.copy.Goals.{After-min-n}
 
 -- how many bytes are copied
 count : (c : After-min-n) → c.min-n.result ≡ portion (bytes_at c.args.self.now (16 + c.in-Some.row)) c.args.offset (length c.args.page.now)
@@ -15,7 +15,7 @@ count c =
     let s = c.args.self.now in
     c.min-n.ensures
     ∙ ap (λ (x : ℕ). min x (length c.args.page.now))
-    (c.saturating-sub.ensures ∙ ap (λ (x : ℕ). x - c.args.offset) (sym (length-bytes s (16 + c.in-Some.row))))
+    (c.saturating_sub.ensures ∙ ap (λ (x : ℕ). x - c.args.offset) (sym (length-bytes s (16 + c.in-Some.row))))
 
 pub returns-then-n-gt0 : goal.returns-then-n-gt0
 returns-then-n-gt0 c =
@@ -26,7 +26,7 @@ returns-then-n-gt0 c =
     let n : ℕ = c.min-n.result in
     let e = sym c.in-Some.ensures in
     let q = count (goal.at.returns-then-n-gt0 c).After-min-n in
-    let sat = c.saturating-sub.ensures in
+    let sat = c.saturating_sub.ensures in
     let le : n ≤ length page = omega (arith, c.min-n.ensures) in
     let left : n ≤ length_of s.lengths k - c.args.offset = omega (arith, c.min-n.ensures) in
     let part : length (take (n - 0) page) ≡ n = length-take-le (n - 0) page (omega arith) ∙ omega arith in

@@ -1,10 +1,10 @@
-use Rattle.std.proofs.Common.{◌≡◌, ℕ, ◌<◌, ◌≤◌, List, [], length, sym, refl, ap, ◌∙◌, subst, ⊎_elim, arith}
+use Rattle.std.proofs.Common.{◌≡◌, ℕ, ◌<◌, ◌≤◌, List, [], length, sym, subst, ⊎_elim, arith}
 use Rattle.std.proofs.lemmas.Bool.{le-leb, cases_lt}
 use Rattle.std.proofs.lemmas.List.{nil_from_length}
 use Rattle.store.specs.Meaning.{Added}
 use Rattle.page_store.specs.Store.{meaning_of, Adding}
 use Rattle.page_store.specs.Stores.{added, added_none, adding-none, room_in, room_out}
-use Rattle.page_store.proofs.store.PageStoreStore.add.Goals as goal
+use Rattle.page_store.proofs.calls.PageStoreStore.add.Goals as goal
 
 pub put-requires : goal.put-requires
 put-requires c =

@@ -1,6 +1,6 @@
 use Rattle.std.proofs.Common.{length, sym, ap, ◌∙◌}
 use Rattle.page_store.specs.Stores.{held_in, length-bytes}
-use Rattle.page_store.proofs.store.PageStoreStore.len.Goals as goal
+use Rattle.page_store.proofs.calls.PageStoreStore.len.Goals as goal
 
 pub returns-then-slot-lt-SLOTS : goal.returns-then-slot-lt-SLOTS
 returns-then-slot-lt-SLOTS c =

@@ -1,8 +1,8 @@
-use Rattle.std.proofs.Common.{◌≡◌, ℕ, Bool, ◌&&◌, ◌||◌, ltb, sym, ap, ◌∙◌}
+use Rattle.std.proofs.Common.{ℕ, Bool, ◌&&◌, ◌||◌, ltb, sym, ap, ◌∙◌}
 use Rattle.page_store.specs.Names.{position, standing}
 use Rattle.page_store.specs.State.{length_of}
 use Rattle.page_store.proofs.Handing.{target_fits}
-use Rattle.page_store.proofs.store.PageStoreStore.can_publish.Goals as goal
+use Rattle.page_store.proofs.calls.PageStoreStore.can_publish.Goals as goal
 
 pub returns : goal.returns
 returns c =
@@ -12,4 +12,4 @@ returns c =
     let full : Bool = ltb c.args.slot 16 && ltb 0 (length_of s.lengths c.args.slot) in
     ap (λ (x : ℕ). ltb x 32) c.target.ensures
     ∙ (target_fits s.names n s.rows
-    ∙ sym (ap (λ (b : Bool). b && (full && tail)) (sym c.if-not-is-name.ensures) ∙ ap (λ (b : Bool). b && tail) (sym c.if-not-holds-bytes.ensures)))
+    ∙ sym (ap (λ (b : Bool). b && (full && tail)) (sym c.if-not-is_name.ensures) ∙ ap (λ (b : Bool). b && tail) (sym c.if-not-holds_bytes.ensures)))

@@ -1,6 +1,6 @@
-use Rattle.std.proofs.Common.{◌≡◌, refl, arith}
+use Rattle.std.proofs.Common.{refl, arith}
 use Rattle.page_store.specs.Stores.{cleared, cleared-none}
-use Rattle.page_store.proofs.store.PageStoreStore.clear.Goals as goal
+use Rattle.page_store.proofs.calls.PageStoreStore.clear.Goals as goal
 
 pub returns-then-slot-lt-SLOTS : goal.returns-then-slot-lt-SLOTS
 returns-then-slot-lt-SLOTS c = record {
