@@ -4,7 +4,7 @@ use Rattle.std.proofs.lemmas.List.{append_assoc, append-nil, drop-drop, length-a
 use lib.Seq.{drop-append_seam, take-append_seam}
 use Rattle.ack.specs.Text.{ack_bytes}
 use Rattle.law.specs.Heard.{Heard, Said, Story}
-use Rattle.law.proofs.Joins.{promised}
+use Rattle.law.proofs.Joins.{promised_heard}
 use Rattle.session.specs.Sessions.{World}
 use Rattle.session.specs.Steps.{Started}
 use Rattle.session.specs.declared.records.Settings.{Settings}
@@ -137,5 +137,5 @@ accounted sets m u calls pages lines desk out w started p = record {
   heard = p.heard;
   logged = p.logged;
   written = p.written;
-  promise = promised sets m u w p.heard started p.story;
+  promise = promised_heard sets m u w p.heard started p.story;
 }

@@ -5,7 +5,7 @@ use Rattle.ack.specs.Told.{Ack}
 use Rattle.history.specs.Law.{number}
 use Rattle.intake_core.specs.Verdicts.{word_of}
 use Rattle.law.specs.Heard.{Heard, Story}
-use Rattle.law.specs.Whole.{Promise}
+use Rattle.law.specs.Whole.{PromiseHeard}
 use Rattle.session.specs.Sessions.{World}
 use Rattle.session.specs.Steps.{message, answer, tick, message_used}
 use Rattle.session.specs.declared.records.Settings.{Settings}
@@ -97,7 +97,7 @@ pub record Account (sets : Settings) (start : List ℕ → Option (List ℕ)) (c
   pub heard : List Heard
   pub logged : Logged (length pages) 0 [] calls lines heard desk
   pub written : out ≡ acks_of heard ++ drop (length (acks_of heard)) pages
-  pub promise : Promise sets start heard w
+  pub promise : PromiseHeard sets start heard w
 
 -- why nothing was run
 abbrev pub Stopped : {S : Type 0} → Settings → S → Halted S → Type 0
