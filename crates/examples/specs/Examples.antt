@@ -1,5 +1,5 @@
 -- Worked examples: what the definitions come to at numbers that can be followed by hand.
-use Rattle.std.specs.Prelude.{◌≡◌, ℕ, ◌+◌, ◌-◌, ◌*◌, Bool, true, false, List, [], ◌∷◌, ◌++◌, length, replicate, Some, None, Ok, Err, vec_len, codes, Option}
+use Rattle.std.specs.Prelude.{◌≡◌, ℕ, ◌+◌, ◌*◌, true, false, List, [], ◌∷◌, ◌++◌, length, replicate, Some, None, Ok, Err, vec_len, codes, Option}
 use Rattle.ids.specs.Ids.{id_of, id_text}
 use Rattle.ids.specs.declared.SessionId.{SessionId}
 use Rattle.outcome.specs.declared.Outcome.TheVariants.{Done, WrongRange, Gap, StoreFull, CutBody}

@@ -1,10 +1,9 @@
 -- When a fragment is taken.
-use Rattle.std.proofs.Common.{◌≡◌, ℕ, ◌+◌, ◌-◌, ◌<◌, ◌≤◌, Bool, true, false, cond, not, ◌&&◌, ◌||◌, eqb, ltb, leb, Some, None, Option, sym, refl, ap, ◌∙◌, subst, arith}
+use Rattle.std.proofs.Common.{◌≡◌, ℕ, ◌+◌, ◌-◌, ◌<◌, ◌≤◌, Bool, true, false, cond, not, ◌||◌, eqb, ltb, leb, Some, None, Option, ◌∙◌}
 use Rattle.std.proofs.lemmas.Bool.{cond-true, cond-false, or_parts, or_from, ltb-false, leb-false, eqb-true, not-false, le-ltb}
-use Rattle.outcome.specs.declared.Outcome.{Outcome}
 use Rattle.outcome.specs.declared.Outcome.TheVariants.{AtApprover, WrongRange, TooLarge, Gap, StoreFull}
 use Rattle.packet.specs.declared.ranges.Range.{Range}
-use Rattle.session.specs.Sessions.{Phase, Live}
+use Rattle.session.specs.Sessions.{Live}
 use Rattle.session.specs.Rules.{is_away, wrong_range, other_total, too_large, fragment_fault}
 use Rattle.session.specs.declared.records.Settings.{Settings}
 

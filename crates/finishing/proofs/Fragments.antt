@@ -1,21 +1,20 @@
 -- A fragment of a finishing list is taken, or meets a session at the approver that has all its bytes.
-use Rattle.std.proofs.Common.{◌≡◌, ℕ, ◌+◌, ◌-◌, ◌<◌, ◌≤◌, max, Bool, true, false, cond, eqb, ◌⊎◌, List, [], ◌++◌, length, drop, Some, None, Option, sym, refl, ap, ◌∙◌, subst, inl, inr, ⊎_elim, arith}
+use Rattle.std.proofs.Common.{◌≡◌, ℕ, ◌+◌, ◌-◌, ◌≤◌, max, Bool, true, false, eqb, List, ◌++◌, length, Some, sym, refl, ap, ◌∙◌, subst, ⊎_elim, arith}
 use Rattle.std.proofs.lemmas.List.{length-append, length-drop}
 use Rattle.std.proofs.lemmas.Bool.{cond-true, eq-eqb, eqb-true}
 use Rattle.outcome.specs.declared.Outcome.TheVariants.{AtApprover}
 use Rattle.packet.specs.Packets.{Request}
 use Rattle.packet.specs.declared.ranges.Range.{Range}
-use Rattle.store.specs.Meaning.{Added}
-use Rattle.session.specs.Sessions.{Phase, receiving, Live, World, row}
+use Rattle.session.specs.Sessions.{receiving, Live, World}
 use Rattle.session.specs.Rules.{is_receiving, is_away, wrong_range, other_total, fragment_fault, phase_at, grown}
-use Rattle.session.specs.Plans.{Plan, refuse, take, unless, plan_of, is_whole, fresh}
+use Rattle.session.specs.Plans.{refuse, take, unless, plan_of, is_whole, fresh}
 use Rattle.session.specs.Steps.{Took}
 use Rattle.session.specs.declared.records.Settings.{Settings}
 use Rattle.finishing.specs.Runs.{message, Stepped}
-use Rattle.finishing.specs.Finishing.{Within, count_of, total_of, Fits}
+use Rattle.finishing.specs.Finishing.{count_of, total_of, Fits}
 use Rattle.finishing.proofs.Phases.{left, left-since, sent, not-sent, stays, away-left, at_most, just}
 use Rattle.finishing.proofs.Faults.{Right, right, no-fault, away-fault}
-use Rattle.finishing.proofs.Lone.{Lone, lone-still, plan-fragment, done-by}
+use Rattle.finishing.proofs.Lone.{lone-still, plan-fragment, done-by}
 use Rattle.finishing.proofs.State.{Holds}
 
 abbrev pub after : Settings → World → Live → Range → Request → Live

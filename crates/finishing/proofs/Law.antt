@@ -1,8 +1,7 @@
 -- Along a finishing list, and its close.
-use Rattle.std.proofs.Common.{◌≡◌, ℕ, ◌+◌, ◌-◌, ◌<◌, ◌≤◌, max, Bool, true, false, cond, ◌⊎◌, List, [], ◌∷◌, ◌++◌, length, get_or, drop, Some, None, Option, sym, refl, ap, ◌∙◌, subst, inl, inr, ⊎_elim, arith}
+use Rattle.std.proofs.Common.{◌≡◌, ℕ, ◌+◌, ◌<◌, ◌≤◌, max, Bool, true, false, List, ◌∷◌, length, get_or, Some, sym, refl, ap, ◌∙◌, ⊎_elim, arith}
 use Rattle.std.proofs.lemmas.List.{get_or_append_left}
 use Rattle.std.proofs.lemmas.Bool.{cases_Bool, cases_lt}
-use Rattle.packet.specs.Packets.{packet_of}
 use Rattle.store.specs.Meaning.{Meaning}
 use Rattle.session.specs.Sessions.{Live, World}
 use Rattle.session.specs.Rules.{is_away, ruled}
@@ -11,7 +10,7 @@ use Rattle.session.specs.Steps.{Word, yes, word_phase}
 use Rattle.session.specs.declared.records.Settings.{Settings}
 use Rattle.finishing.specs.Runs.{Call, message, answer, Stepped}
 use Rattle.finishing.specs.Finishing.{Fits, Sends, done, fragment, verdict, approved, or_else, first_carried}
-use Rattle.finishing.proofs.State.{Holds, is-ready, is_whole}
+use Rattle.finishing.proofs.State.{Holds, is_whole}
 use Rattle.finishing.proofs.Fragments.{after, reach_now, away-whole, away-same, holds-away, took, holds-taken}
 use Rattle.finishing.proofs.Verdicts.{told, untold, holds-verdict, holds-untold, not_taken, holds-approved}
 use Rattle.finishing.proofs.Carried.{reaches, misses, fresh_at}

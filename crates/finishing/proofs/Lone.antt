@@ -1,13 +1,11 @@
 -- A session whose serial no other row has: how messages and answers find it.
-use Rattle.std.proofs.Common.{◌≡◌, ℕ, ◌+◌, ◌<◌, ◌≤◌, Bool, true, false, cond, ◌&&◌, eqb, ltb, ◌⊎◌, List, [], ◌∷◌, length, get_or, set, Some, None, Ok, Err, Option, Result, sym, refl, ap, ◌∙◌, subst, inl, inr, ⊎_elim, arith}
+use Rattle.std.proofs.Common.{◌≡◌, ℕ, ◌<◌, ◌≤◌, true, false, cond, eqb, ltb, List, length, Some, None, Ok, Option, sym, ap, ◌∙◌, subst, ⊎_elim, arith}
 use Rattle.std.proofs.lemmas.List.{length-set, get_or-set_same, get_or-set_other}
 use Rattle.std.proofs.lemmas.Bool.{cond-true, cond-false, cases_eq, eq-eqb, and_from, and_right, le-ltb}
 use Rattle.std.proofs.lemmas.Bool.Decides.{when_false}
 use Rattle.ids.specs.declared.SessionId.{SessionId}
-use Rattle.outcome.specs.declared.Outcome.{Outcome}
 use Rattle.outcome.specs.declared.Outcome.TheVariants.{ShortPage, UploadsOff}
 use Rattle.packet.specs.Packets.{Request, packet_of}
-use Rattle.packet.specs.declared.judging.Action.{Action}
 use Rattle.packet.specs.declared.judging.Action.TheVariants.{Fragment, Close}
 use Rattle.packet.specs.declared.ranges.Range.{Range}
 use Rattle.session.specs.Sessions.{Live, World, row, index_of}

@@ -1,7 +1,6 @@
 -- What a whole fragment and a verdict make of a phase.
-use Rattle.std.proofs.Common.{◌≡◌, ℕ, ◌+◌, ◌<◌, ◌≤◌, Bool, true, false, cond, not, ◌&&◌, eqb, ◌⊎◌, List, [], Some, None, Option, sym, refl, ap, ◌∙◌, subst, inl, inr, ⊎_elim, arith}
+use Rattle.std.proofs.Common.{◌≡◌, ℕ, ◌≤◌, Bool, true, false, cond, eqb, ◌⊎◌, [], Some, None, Option, sym, refl, ap, ◌∙◌, subst, inl, inr, ⊎_elim, arith}
 use Rattle.std.proofs.lemmas.Bool.{cond-true, cond-false, cases_Bool, eqb-true, eq-eqb, not-false, true≢false, false≢true}
-use Rattle.outcome.specs.declared.Outcome.{Outcome}
 use Rattle.session.specs.Sessions.{Phase, receiving, away, ready}
 use Rattle.session.specs.Rules.{is_receiving, is_away, phase_at, other_total, close_fault, ready_fault}
 use Rattle.session.specs.declared.records.Settings.{Settings}

@@ -1,5 +1,5 @@
 -- What the worlds that an intake reaches have for the law.
-use Rattle.std.proofs.Common.{◌≡◌, ℕ, ◌+◌, ◌-◌, ◌<◌, ◌≤◌, max, Bool, true, false, cond, ltb, ◌⊎◌, List, [], ◌∷◌, map, length, get_or, replicate, Some, None, Ok, Err, MatchBool, Option, Result, sym, refl, ap, ◌∙◌, subst, inl, inr, ⊎_elim, arith}
+use Rattle.std.proofs.Common.{◌≡◌, ℕ, ◌<◌, ◌≤◌, max, Bool, true, false, cond, ltb, List, [], ◌∷◌, map, length, replicate, Some, None, Ok, Err, MatchBool, Option, Result, sym, refl, ap, ◌∙◌, subst, ⊎_elim, arith}
 use Rattle.std.proofs.lemmas.List.{get_or_past, get_or-replicate, length-replicate}
 use Rattle.std.proofs.lemmas.Bool.{cond-false, cases_Bool, cases_lt}
 use Rattle.outcome.specs.declared.Outcome.TheVariants.{UploadsOff}
@@ -7,7 +7,7 @@ use Rattle.packet.specs.Packets.{Request, packet_of}
 use Rattle.packet.specs.declared.Fault.{Fault}
 use Rattle.session.specs.Sessions.{Live, World, row, index_of}
 use Rattle.session.specs.Rules.{is_asked}
-use Rattle.session.specs.Plans.{Plan, refuse, ping, action_plan, is_ping, plan_of}
+use Rattle.session.specs.Plans.{refuse, ping, action_plan, is_ping, plan_of}
 use Rattle.session.specs.Steps.{Word, Done, ReadDone, AskedDone, swept}
 use Rattle.session.specs.declared.records.Settings.{Settings}
 use Rattle.finishing.specs.Runs.{Call, message, answer, tick, Stepped, Runs}

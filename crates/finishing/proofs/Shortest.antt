@@ -1,20 +1,20 @@
 -- The shortest finishing lists can be run.
-use Rattle.std.proofs.Common.{◌≡◌, ℕ, ◌+◌, ◌-◌, ◌<◌, ◌≤◌, Bool, true, false, cond, eqb, ltb, ◌⊎◌, List, [], ◌∷◌, ◌++◌, length, drop, Some, None, Ok, Err, MatchBool, Option, sym, refl, ap, ◌∙◌, subst, inl, inr, ⊎_elim, arith}
+use Rattle.std.proofs.Common.{◌≡◌, ℕ, ◌+◌, ◌-◌, ◌≤◌, Bool, true, false, eqb, List, [], ◌∷◌, length, Some, None, Ok, MatchBool, Option, sym, refl, ap, ◌∙◌, subst, ⊎_elim, arith}
 use Rattle.std.proofs.lemmas.List.{length-drop}
 use Rattle.std.proofs.lemmas.Bool.{cond-true, cond-false, eq-eqb, le-ltb, cases_Bool, false≢true}
 use Rattle.packet.specs.Packets.{Request, packet_of}
-use Rattle.session.specs.Sessions.{Live, World, row, index_of}
-use Rattle.session.specs.Rules.{is_away, is_asked, wrong_range, fragment_fault, forbidden, ruled}
+use Rattle.session.specs.Sessions.{Live, World, index_of}
+use Rattle.session.specs.Rules.{is_away, is_asked, wrong_range, forbidden, ruled}
 use Rattle.session.specs.Plans.{Plan, take, close, unless, stands, plan_of, fresh}
 use Rattle.session.specs.Steps.{Word, yes, is_address, word_phase, Done, ReadDone, MessageDone, AskedDone, AnswerDone}
 use Rattle.session.specs.declared.records.Settings.{Settings}
-use Rattle.finishing.specs.Runs.{Call, message, answer, Stepped}
-use Rattle.finishing.specs.Finishing.{Fits, Asks, Closes, Good, total_of, count_of, Finishing, Ran, shortest, CanRun}
-use Rattle.finishing.proofs.Faults.{Right, right, no-fault}
-use Rattle.finishing.proofs.Lone.{Lone, plan-fragment, asked-row}
+use Rattle.finishing.specs.Runs.{message, answer, Stepped}
+use Rattle.finishing.specs.Finishing.{Fits, Asks, Closes, Good, total_of, count_of, Ran, CanRun}
+use Rattle.finishing.proofs.Faults.{right, no-fault}
+use Rattle.finishing.proofs.Lone.{plan-fragment, asked-row}
 use Rattle.finishing.proofs.State.{Holds, at-start}
 use Rattle.finishing.proofs.Fragments.{after, holds-taken, sent-away}
-use Rattle.finishing.proofs.Verdicts.{holds-approved, word-taken}
+use Rattle.finishing.proofs.Verdicts.{holds-approved}
 use Rattle.finishing.proofs.Theorem.{close-plan, one-fragment, one-fragment-approved, yes-taken}
 use Rattle.finishing.proofs.Models.{added_to, added-to, published_to, published-to, with_row, with-row}
 

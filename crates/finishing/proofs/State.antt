@@ -1,7 +1,7 @@
 -- What holds of the session all along a finishing list.
-use Rattle.std.proofs.Common.{◌≡◌, ℕ, ◌+◌, ◌-◌, ◌<◌, ◌≤◌, Bool, true, false, cond, ◌⊎◌, List, [], length, Some, None, Option, sym, refl, ap, ◌∙◌, subst, inl, inr, ⊎_elim, arith}
+use Rattle.std.proofs.Common.{◌≡◌, ℕ, ◌+◌, ◌-◌, ◌≤◌, Bool, true, false, List, length, Some, Option, sym, refl, ap, ◌∙◌, ⊎_elim, arith}
 use Rattle.std.proofs.lemmas.Bool.{cases_Bool, true≢false, false≢true}
-use Rattle.session.specs.Sessions.{Phase, receiving, Live, World}
+use Rattle.session.specs.Sessions.{Live, World}
 use Rattle.session.specs.Rules.{is_receiving, is_away}
 use Rattle.session.specs.declared.records.Settings.{Settings}
 use Rattle.finishing.specs.Finishing.{Within, Good}

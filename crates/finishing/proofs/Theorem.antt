@@ -1,15 +1,14 @@
 -- The close at the end of a finishing list, and that there are such lists.
-use Rattle.std.proofs.Common.{◌≡◌, ℕ, ◌+◌, ◌-◌, ◌<◌, ◌≤◌, Bool, true, false, cond, eqb, List, [], ◌∷◌, ◌++◌, length, Some, None, Option, sym, refl, ap, ◌∙◌, subst, arith}
+use Rattle.std.proofs.Common.{◌≡◌, ℕ, ◌+◌, ◌≤◌, Bool, true, false, cond, eqb, List, [], ◌∷◌, ◌++◌, Some, None, sym, refl, ap, ◌∙◌, subst}
 use Rattle.std.proofs.lemmas.Bool.{cond-true, cond-false, eq-eqb, false≢true}
 use Rattle.outcome.specs.declared.Outcome.TheVariants.{Done, DestinationStands, StoreFull, BadReplyAddress}
-use Rattle.packet.specs.Packets.{Request}
-use Rattle.session.specs.Sessions.{Phase, Live, World}
+use Rattle.session.specs.Sessions.{Live, World}
 use Rattle.session.specs.Rules.{is_away, forbidden, close_fault}
-use Rattle.session.specs.Plans.{Plan, close, unless, stands, plan_of}
-use Rattle.session.specs.Steps.{Closed, Word, yes, is_address, word_outcome, message_outcome, answer_outcome}
+use Rattle.session.specs.Plans.{close, unless, stands, plan_of}
+use Rattle.session.specs.Steps.{Closed, yes, is_address, message_outcome, answer_outcome}
 use Rattle.session.specs.declared.records.Settings.{Settings}
 use Rattle.finishing.specs.Runs.{Call, message, answer, Stepped, Runs}
-use Rattle.finishing.specs.Finishing.{Fits, Closes, Sends, done, fragment, verdict, approved, Finishing, Finished, Finishable, AreRuns, OneFragment, OneFragmentApproved, Good}
+use Rattle.finishing.specs.Finishing.{Closes, Sends, done, fragment, verdict, approved, Finishable, AreRuns, OneFragment, OneFragmentApproved}
 use Rattle.finishing.proofs.Phases.{ready-close}
 use Rattle.finishing.proofs.Lone.{plan-close, done-by, outcome-by}
 use Rattle.finishing.proofs.State.{Holds, at-start, is-ready, is_whole}

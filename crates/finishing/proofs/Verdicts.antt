@@ -1,16 +1,15 @@
 -- What an answer leaves of the session, and that a taken yes settles it.
-use Rattle.std.proofs.Common.{◌≡◌, ℕ, ◌+◌, ◌-◌, ◌<◌, ◌≤◌, Bool, true, false, cond, ◌⊎◌, List, [], length, Some, None, Option, sym, refl, ap, ◌∙◌, subst, inl, inr, ⊎_elim, arith}
-use Rattle.std.proofs.lemmas.Bool.{cond-true, cond-false, cases_Bool, true≢false, false≢true}
-use Rattle.outcome.specs.declared.Outcome.{Outcome}
+use Rattle.std.proofs.Common.{◌≡◌, ℕ, ◌+◌, ◌≤◌, Bool, true, false, List, length, Some, None, sym, refl, ap, ◌∙◌, subst, ⊎_elim, arith}
+use Rattle.std.proofs.lemmas.Bool.{cond-true, cond-false, cases_Bool, true≢false}
 use Rattle.outcome.specs.declared.Outcome.TheVariants.{Done, NoSession, BadReplyAddress}
 use Rattle.store.specs.Meaning.{Meaning}
-use Rattle.session.specs.Sessions.{Phase, receiving, ready, Live, World, row}
+use Rattle.session.specs.Sessions.{receiving, ready, Live, World, row}
 use Rattle.session.specs.Rules.{is_receiving, is_away, ruled}
-use Rattle.session.specs.Steps.{Word, yes, no, is_address, word_outcome, word_phase, asked_outcome, answer_outcome, Written, Ruled}
+use Rattle.session.specs.Steps.{Word, yes, is_address, word_outcome, word_phase, answer_outcome, Written, Ruled}
 use Rattle.session.specs.declared.records.Settings.{Settings}
 use Rattle.finishing.specs.Runs.{answer, Stepped}
 use Rattle.finishing.proofs.Phases.{away-left}
-use Rattle.finishing.proofs.Lone.{Lone, lone-still, asked-row, unasked-row, ruled-by, verdict-by}
+use Rattle.finishing.proofs.Lone.{lone-still, asked-row, unasked-row, ruled-by, verdict-by}
 use Rattle.finishing.proofs.State.{Holds, same_some}
 
 bad-is-not-done : BadReplyAddress ≡ Done → ⊥

@@ -8,7 +8,7 @@ use Rattle.packet.specs.declared.judging.Action.{Action}
 use Rattle.packet.specs.declared.judging.Action.TheVariants.{Create, Ping, Fragment, Close, Cancel}
 use Rattle.packet.specs.declared.ranges.Range.{Range}
 use Rattle.store.specs.Meaning.{Meaning}
-use Rattle.session.specs.Sessions.{Phase, receiving, Live, World, row}
+use Rattle.session.specs.Sessions.{receiving, Live, World, row}
 use Rattle.session.specs.Rules.{wrong_range, forbidden}
 use Rattle.session.specs.Plans.{stands}
 use Rattle.session.specs.Steps.{Word, yes, message_outcome, answer_outcome, is_address, Started}

@@ -1,4 +1,6 @@
 // Every session that is still receiving can be finished. No code runs here: the law is a promise that callers cite.
+#![tactic(auto)]
+
 ghost use Rattle.std.specs.Prelude.{◌≡◌, true};
 ghost use Rattle.session.specs.declared.records.Settings.{Settings};
 ghost use Rattle.finishing.specs.Finishing.{FinishableUnder, GoodSince, UploadsOn, AreRuns, CanRun, OneFragment, OneFragmentApproved};

@@ -1,4 +1,6 @@
 // One story told over two makes of store through one generic text.
+#![tactic(auto)]
+
 use page_store::PageStore;
 use std::io::Write;
 use store::{Refusal, Store};

@@ -1,10 +1,9 @@
 -- A byte string has at most one reading as a volume.
-use Rattle.std.proofs.Common.{◌≡◌, ℕ, ◌+◌, ◌<◌, ◌≤◌, List, [], ◌∷◌, ◌++◌, reverse, length, take, drop, sym, refl, ap, ◌∙◌, subst, append_assoc, append-nil, arith, length-append}
+use Rattle.std.proofs.Common.{◌≡◌, ℕ, ◌≤◌, List, [], ◌∷◌, ◌++◌, reverse, length, sym, refl, ap, ◌∙◌, subst, append_assoc, append-nil, arith, length-append}
 use mathlib.Core.List.{reverse-append, reverse-reverse}
-use Rattle.std.specs.List.{flat_map, AllByRecursion as All}
+use Rattle.std.specs.List.{flat_map, AllByRecursion}
 use Rattle.std.proofs.ByRecursion.{All-push}
-use Rattle.std.proofs.lemmas.List.{nil_from_length}
-use Rattle.volume.specs.Bundles.{Bundle, distance, bytes_of, Proper, Volume, Unique}
+use Rattle.volume.specs.Bundles.{Bundle, bytes_of, Proper, Unique}
 use Rattle.volume.proofs.Joins.{length-bytes_of, peel}
 
 -- bundles joined, the newest first in the list
@@ -22,9 +21,9 @@ unfolding back
 back-reverse [] = refl
 back-reverse (b ∷ bs) = ap back (reverse-append (b ∷ []) bs) ∙ back-push (reverse bs) b ∙ ap (λ l. bytes_of b ++ l) (back-reverse bs)
 
-pub all-reverse : (bs : List Bundle) → All Proper bs → All Proper (reverse bs)
+pub all-reverse : (bs : List Bundle) → AllByRecursion Proper bs → AllByRecursion Proper (reverse bs)
 all-reverse [] h = tt
-all-reverse (b ∷ bs) h = subst (All Proper) (sym (reverse-append (b ∷ []) bs)) (All-push Proper (reverse bs) b (all-reverse bs h.1) h.0)
+all-reverse (b ∷ bs) h = subst (AllByRecursion Proper) (sym (reverse-append (b ∷ []) bs)) (All-push Proper (reverse bs) b (all-reverse bs h.1) h.0)
 
 bytes-some : (b : Bundle) → 16 ≤ length (bytes_of b)
 bytes-some b = omega (arith, length-bytes_of b)
@@ -33,10 +32,10 @@ pub record Front (bs cs : List Bundle) (x : List ℕ) : Type 0 where
   pub front : List Bundle
   pub is : bs ≡ cs ++ front
   pub bytes : back front ≡ x
-  pub each : All Proper front
+  pub each : AllByRecursion Proper front
 
 -- bundles that end in the bundles cs are cs behind some others
-pub front_of : (bs cs : List Bundle) (x : List ℕ) → All Proper bs → All Proper cs → back bs ≡ x ++ back cs → Front bs cs x
+pub front_of : (bs cs : List Bundle) (x : List ℕ) → AllByRecursion Proper bs → AllByRecursion Proper cs → back bs ≡ x ++ back cs → Front bs cs x
 unfolding back
 front_of bs [] x p q e = record { front = bs; is = refl; bytes = e ∙ append-nil x; each = p }
 front_of [] (c ∷ cs) x p q e =

@@ -2,10 +2,9 @@
 use Rattle.std.proofs.Common.{◌≡◌, ℕ, ◌+◌, ◌-◌, ◌^◌, ◌<◌, ◌≤◌, Bool, true, false, cond, eqb, ltb, leb, List, [], ◌∷◌, ◌++◌, length, take, drop, Some, None, Option, sym, refl, ap, ◌∙◌, subst₂, append_assoc, zero-add, arith, length-append, length-drop}
 use lib.Seq.{paste}
 use borrow.Rule.Slice.PartMut.{put_mid}
-use Rattle.std.specs.List.{flat_map}
 use Rattle.std.proofs.ByRecursion.{All-push}
 use Rattle.std.proofs.lemmas.List.{take_at, drop_at, drop-drop, take-append-drop, length-take-le, flat_map_more}
-use Rattle.volume.specs.Bundles.{Bundle, distance, bytes_of, trailer, Proper, Volume, newest}
+use Rattle.volume.specs.Bundles.{Bundle, bytes_of, trailer, Proper, Volume, newest}
 use Rattle.std.proofs.lemmas.Bool.Decides.{nat_tests}
 use Rattle.volume.specs.Writes.{Put, Appended, Packed, RoundTrip, volume_in, refusal}
 use Rattle.volume.specs.declared.bundle.Refusal.{Refusal}

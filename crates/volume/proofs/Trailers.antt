@@ -1,11 +1,11 @@
 -- The trailer at the end of bytes, and that a fault leaves no bundle there.
-use Rattle.std.proofs.Common.{◌≡◌, ℕ, zero, suc, ◌+◌, ◌-◌, ◌^◌, ◌<◌, ◌≤◌, ◌⊎◌, List, [], ◌∷◌, ◌++◌, length, take, drop, codes, sym, refl, ap, ◌∙◌, subst, inl, inr, ⊎_elim, append_assoc, eq-or-lt_of_le, arith, length-append, length-take}
+use Rattle.std.proofs.Common.{◌≡◌, ℕ, zero, suc, ◌+◌, ◌-◌, ◌^◌, ◌<◌, ◌≤◌, List, [], ◌∷◌, ◌++◌, length, take, drop, codes, sym, refl, ap, ◌∙◌, subst, ⊎_elim, append_assoc, eq-or-lt_of_le, arith, length-append}
 use Rattle.std.specs.List.{between}
 use Rattle.std.proofs.lemmas.List.Edits.{split_between, length-between}
 use Rattle.std.proofs.lemmas.List.Prefix.{end_rest}
 use Rattle.std.proofs.lemmas.Bool.{cases_order}
 use Rattle.std.proofs.lemmas.List.{length-take-le}
-use Rattle.volume.specs.Bundles.{Bundle, big_endian, trailer, distance, bytes_of, Proper}
+use Rattle.volume.specs.Bundles.{Bundle, big_endian, trailer, distance, bytes_of}
 use Rattle.volume.specs.Reads.{Placed, Ends, Trailed, EndsWith, Passes, rank, Faulty}
 use Rattle.volume.specs.declared.bundle.Fault.{Fault}
 use Rattle.volume.specs.declared.bundle.Fault.TheVariants.{NoTrailer, NoMark, NoZeros, NameLength, NoEntity, TooFar}

@@ -1,11 +1,11 @@
 -- One step of the walk back from the end, and what the walk has seen.
-use Rattle.std.proofs.Common.{◌≡◌, ℕ, ◌+◌, ◌-◌, ◌<◌, ◌≤◌, Bool, true, false, cond, List, [], ◌∷◌, ◌++◌, reverse, length, take, drop, Some, None, Option, sym, refl, ap, ◌∙◌, subst, append_assoc, append-nil, arith, length-append, length-drop}
+use Rattle.std.proofs.Common.{◌≡◌, ℕ, ◌+◌, ◌-◌, ◌<◌, ◌≤◌, Bool, true, false, cond, List, [], ◌∷◌, ◌++◌, reverse, length, take, drop, Some, None, sym, refl, ap, ◌∙◌, subst, append_assoc, arith}
 use mathlib.Core.List.{reverse-append, reverse-reverse}
-use Rattle.std.specs.List.{flat_map, AllByRecursion as All}
+use Rattle.std.specs.List.{AllByRecursion}
 use Rattle.std.specs.Str.{bytes_eq}
 use Rattle.std.proofs.lemmas.Slice.Eq.{bytes_eq-Decides}
 use Rattle.std.proofs.lemmas.List.{take-append-drop, drop_at, drop_all, length-take-le}
-use Rattle.volume.specs.Bundles.{Bundle, distance, bytes_of, Proper, Volume, later, newest}
+use Rattle.volume.specs.Bundles.{Bundle, bytes_of, Proper, Volume, later, newest}
 use Rattle.volume.specs.Reads.{Placed, Ends, Tail, Faulty, Stopped, Damaged, Without, laid}
 use Rattle.volume.specs.declared.bundle.Damage.{Damage}
 use Rattle.volume.specs.declared.bundle.Fault.{Fault}
@@ -48,7 +48,7 @@ front-tail s bs at rest v t =
     front_of (reverse bs) (reverse rest) (take at s) (all-reverse bs v.each) (all-reverse rest t.volume.each)
     (back-reverse bs ∙ sym v.is ∙ sym (take-append-drop at s) ∙ ap (λ l. take at s ++ l) (t.volume.is ∙ sym (back-reverse rest)))
 
-no-fault : (x : List ℕ) (f : Fault) (bs : List Bundle) → All Proper bs → back bs ≡ x → 1 ≤ length x → Faulty x f → ⊥
+no-fault : (x : List ℕ) (f : Fault) (bs : List Bundle) → AllByRecursion Proper bs → back bs ≡ x → 1 ≤ length x → Faulty x f → ⊥
 unfolding back
 no-fault x f [] p e some h = omega (arith, ap length e)
 no-fault x f (b ∷ bs) p e some h = faulty-none x f h (record { at = length (back bs); bundle = b }) (record { before = back bs; joins = sym e; starts = refl; proper = p.0 })

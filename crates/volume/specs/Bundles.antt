@@ -1,6 +1,6 @@
 -- What a volume is: bundles joined, or none. A byte string is a list of numbers.
-use Rattle.std.specs.Prelude.{◌≡◌, ℕ, zero, suc, ◌+◌, ◌/◌, ◌%◌, ◌^◌, ◌<◌, ◌≤◌, Bool, cond, List, [], ◌∷◌, ◌++◌, length, Some, None, codes, Option}
-use Rattle.std.specs.List.{flat_map, AllByRecursion as All}
+use Rattle.std.specs.Prelude.{◌≡◌, ℕ, zero, suc, ◌+◌, ◌/◌, ◌%◌, ◌^◌, ◌<◌, ◌≤◌, cond, List, [], ◌∷◌, ◌++◌, length, Some, None, codes, Option}
+use Rattle.std.specs.List.{flat_map, AllByRecursion}
 use Rattle.std.specs.Str.{bytes_eq}
 
 -- a script's bytes and the name that they are kept under
@@ -32,7 +32,7 @@ pub record Proper (b : Bundle) : Type 0 where
 
 -- s is the bundles bs joined, in the order in which they were written
 pub record Volume (s : List ℕ) (bs : List Bundle) : Type 0 where
-  pub each : All Proper bs
+  pub each : AllByRecursion Proper bs
   pub is : s ≡ flat_map bytes_of bs
 
 -- a byte string has at most one reading

@@ -1,7 +1,7 @@
 -- What reading a volume back from its end gives.
-use Rattle.std.specs.Prelude.{◌≡◌, ℕ, ◌+◌, ◌-◌, ◌^◌, ◌<◌, ◌≤◌, List, [], ◌∷◌, ◌++◌, reverse, length, take, drop, Some, None, Ok, Err, codes, Option, Result, ◌≢◌}
-use Rattle.std.specs.List.{AllByRecursion as All}
-use Rattle.volume.specs.Bundles.{Bundle, bytes_of, trailer, distance, Proper, Volume}
+use Rattle.std.specs.Prelude.{◌≡◌, ℕ, ◌+◌, ◌^◌, ◌<◌, ◌≤◌, List, [], ◌∷◌, ◌++◌, reverse, length, take, drop, Some, None, Ok, Err, codes, Option, Result, ◌≢◌}
+use Rattle.std.specs.List.{AllByRecursion}
+use Rattle.volume.specs.Bundles.{Bundle, bytes_of, trailer, Proper, Volume}
 use Rattle.volume.specs.declared.bundle.BundleRef.{BundleRef}
 use Rattle.volume.specs.declared.bundle.Found.{Found}
 use Rattle.volume.specs.declared.bundle.Damage.{Damage}
@@ -94,7 +94,7 @@ pub record Counted (s : List ℕ) (n : ℕ) : Type 0 where
 
 -- none of bs has that name
 abbrev pub Without : List ℕ → List Bundle → Type 0
-Without name bs = All (λ b. b.name ≢ name) bs
+Without name bs = AllByRecursion (λ b. b.name ≢ name) bs
 
 -- that bundle has the name, and none behind it
 pub record Newest (s name : List ℕ) (p : Placed) : Type 0 where

@@ -1,4 +1,6 @@
 // The volume: bundles written one behind the other and read back from the last byte.
+#![tactic(auto)]
+
 mod bundle;
 mod read;
 mod sample;

@@ -1,16 +1,6 @@
 -- The words of a command line by their number.
-use Rattle.std.proofs.Common.{◌≡◌, ℕ, suc, ◌+◌, ◌<◌, ◌≤◌, Bool, true, false, cond, ◌⊎◌, List, [], ◌∷◌, map, length, get_or, None, Decides, sym, refl, ap, ◌∙◌, inl, inr, arith}
-use Rattle.std.specs.Str.{bytes_eq}
-use Rattle.std.proofs.lemmas.Slice.Eq.{bytes_eq-Decides}
-use Rattle.std.proofs.lemmas.Bool.{true≢false}
+use Rattle.std.proofs.Common.{◌≡◌, ℕ, ◌<◌, ◌≤◌, ◌⊎◌, List, [], ◌∷◌, map, length, get_or, None, refl, ap, inl, inr, arith}
 use Rattle.volume_files.specs.Wishes.{asked, lone-asked, file-asked, name-asked}
-
-pub differs : (xs ys : List ℕ) (r : Bool) → Decides r (xs ≡ ys) → r ≡ false → bytes_eq xs ys ≡ false
-differs xs ys r h e = at (bytes_eq xs ys) refl
-  where
-    at : (t : Bool) → bytes_eq xs ys ≡ t → t ≡ false
-    at true s = absurd (true≢false (sym (h.1 ((bytes_eq-Decides xs ys).0 s)) ∙ e))
-    at false s = refl
 
 module _ {X : Type 0} (f : X → List ℕ) where
   pub one : (ws : List X) (v : X) → length ws ≡ 1 → v ≡ get_or ws 0 v → lone-asked (f v) ≡ asked (map f ws)

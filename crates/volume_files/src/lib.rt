@@ -1,4 +1,6 @@
 // The commands of the volume tool: volumes in files, added to so that an interrupted add leaves the old file.
+#![tactic(auto)]
+
 mod command;
 mod files;
 mod grow;

@@ -1,12 +1,11 @@
 -- The one list of bundles that a volume is.
-use Rattle.std.specs.Prelude.{◌≡◌, ℕ, ◌<◌, ◌≤◌, List, [], ◌∷◌, refl}
-use Rattle.std.proofs.Common.{ap}
+use Rattle.std.specs.Prelude.{ℕ, List, [], ◌∷◌, refl}
 use mathlib.Core.List.{is_set}
 use Rattle.std.proofs.Math.Logic.{∥∥₁_elim}
 use Rattle.std.proofs.Math.Bridge.{le_prop}
 use Rattle.std.proofs.Math.Nat.{ℕ_set}
 use std.HLevel.{Σ_prop_path, ×_prop}
-use Rattle.std.specs.List.{AllByRecursion as All}
+use Rattle.std.specs.List.{AllByRecursion}
 use Rattle.volume.specs.Bundles.{Bundle, Volume, Proper}
 use Rattle.volume.proofs.Laws.{unique}
 
@@ -22,7 +21,7 @@ proper-prop b p q = λ i. record {
   fits = le_prop p.fits q.fits i;
 }
 
-all_prop : (bs : List Bundle) → IsProp (All Proper bs)
+all_prop : (bs : List Bundle) → IsProp (AllByRecursion Proper bs)
 all_prop [] = λ p q. refl
 all_prop (b ∷ bs) = ×_prop (proper-prop b) (all_prop bs)
 

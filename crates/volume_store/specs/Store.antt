@@ -3,8 +3,8 @@ use Rattle.std.specs.Prelude.{◌≡◌, ℕ, ◌+◌, ◌-◌, ◌*◌, ◌<◌
 use Rattle.std.specs.Borrow.{Bor}
 use Rattle.store.specs.Meaning.{Meaning, Change, nameable}
 use Rattle.store.specs.Meaning.Change.{adding, clearing, publishing}
-use Rattle.volume.specs.Bundles.{Bundle, Volume, newest}
-use Rattle.volume.specs.Writes.{Put, Appended}
+use Rattle.volume.specs.Bundles.{Bundle, newest}
+use Rattle.volume.specs.Writes.{Appended}
 use Rattle.volume_store.specs.declared.state.VolumeStore.{VolumeStore}
 use Rattle.volume_store.specs.Readings.{Holds, reading}
 use Rattle.volume_store.specs.State.{length_of, volume_bytes}

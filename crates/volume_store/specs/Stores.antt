@@ -1,15 +1,15 @@
 -- What a volume store's changes do to its meaning.
-use Rattle.std.specs.Prelude.{◌≡◌, ℕ, zero, suc, ◌+◌, ◌-◌, ◌*◌, ◌^◌, ◌<◌, ◌≤◌, Bool, true, false, cond, ◌&&◌, ltb, leb, ◌⊎◌, List, [], ◌∷◌, ◌++◌, length, take, drop, set, replicate, is_err, Some, None, Ok, Err, vec_items, vec_len, Option, Result, ◌==◌, ◌≢◌, nat_le, nat_lt, slice_index, slice_index_or, slice_set, refl}
-use Rattle.std.proofs.Common.{sym, ap, subst, ◌∙◌, inl, inr, ⊎_elim, arith, add-zero, get_or-set_same, get_or-set_other}
+use Rattle.std.specs.Prelude.{◌≡◌, ℕ, zero, suc, ◌+◌, ◌-◌, ◌*◌, ◌^◌, ◌<◌, ◌≤◌, Bool, true, false, cond, ◌&&◌, ltb, leb, List, [], ◌∷◌, ◌++◌, length, take, drop, set, replicate, is_err, Some, None, Ok, Err, vec_items, vec_len, Option, Result, ◌==◌, ◌≢◌, nat_le, nat_lt, slice_index, slice_index_or, slice_set, refl}
+use Rattle.std.proofs.Common.{sym, ap, subst, ◌∙◌, ⊎_elim, arith, add-zero, get_or-set_same, get_or-set_other}
 use Rattle.std.specs.Str.{bytes_eq}
 use Rattle.std.proofs.lemmas.Slice.Eq.{bytes_eq-Decides}
 use Rattle.std.proofs.lemmas.Bool.{cond-true, cond-false, lt-ltb, le-ltb, ltb-true, le-leb, leb-true, ne_eqb, and_left, and_right, and_parts, cases_lt, cases_eq, cases_Bool, false≢true}
-use Rattle.std.proofs.lemmas.List.{append-nil, take-append-drop, length-append, length-take-le, length-drop, set-get_or}
-use Rattle.store.specs.Meaning.{Meaning, Added, Cleared, Published, nameable}
+use Rattle.std.proofs.lemmas.List.{append-nil, take-append-drop, length-take-le, length-drop, set-get_or}
+use Rattle.store.specs.Meaning.{Added, Cleared, Published, nameable}
 use Rattle.volume.specs.Bundles.{Bundle, Volume, newest, later, bytes_of}
 use Rattle.volume.specs.Reads.{Counted, Damaged}
 use Rattle.volume.specs.declared.bundle.Damage.{Damage}
-use Rattle.volume.specs.Writes.{Appended, refusal, volume_in}
+use Rattle.volume.specs.Writes.{Appended, refusal}
 use Rattle.volume.specs.declared.bundle.Refusal.{Refusal}
 use Rattle.volume.specs.declared.bundle.Refusal.TheVariants.{EmptyEntity, EmptyName, LongName, Outside, NoRoom}
 use Rattle.volume.proofs.Laws.{unique}

@@ -1,6 +1,6 @@
 -- Stretches of a region after bytes were written elsewhere in it.
-use Rattle.std.specs.Prelude.{◌≡◌, ℕ, ◌+◌, ◌-◌, ◌*◌, ◌<◌, ◌≤◌, ◌⊎◌, List, [], ◌∷◌, ◌++◌, length, take, drop, refl}
-use Rattle.std.proofs.Common.{sym, ap, subst, ◌∙◌, inl, inr, ⊎_elim, mul-le-mul_right, add-mul, one-mul, arith}
+use Rattle.std.specs.Prelude.{◌≡◌, ℕ, ◌+◌, ◌-◌, ◌*◌, ◌<◌, ◌≤◌, List, ◌++◌, length, take, drop}
+use Rattle.std.proofs.Common.{sym, ap, ◌∙◌, mul-le-mul_right, add-mul, one-mul, arith}
 use Rattle.std.proofs.lemmas.List.{append_assoc, drop-take, take-append-le, take-take, take_at, drop_at, drop-drop, drop-append-le, length-take-le, length-append, length-drop}
 
 module _ (l xs : List ℕ) (at : ℕ) (fit : at + length xs ≤ length l) where

@@ -1,6 +1,8 @@
 // A store over a volume: slots at the front of the region, the volume behind them.
-mod state;
-mod store;
+#![tactic(auto)]
 
+mod calls;
+mod state;
+
+pub use calls::BadRegion;
 pub use state::VolumeStore;
-pub use store::BadRegion;

@@ -1,4 +1,6 @@
 // Examples at the limits of the volume format and of the volume tool.
+#![tactic(auto)]
+
 #[cfg(test)]
 mod files;
 #[cfg(test)]

@@ -1,4 +1,6 @@
 // The volume tool: `volume help` lists its commands.
+#![tactic(auto)]
+
 use anyhow::anyhow;
 use std::env;
 use volume_files::obey;

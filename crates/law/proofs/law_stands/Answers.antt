@@ -1,5 +1,5 @@
-use Rattle.law.proofs.Joins.{promised}
+use Rattle.law.proofs.Joins.{promised, promised_heard}
 use Rattle.law.proofs.law_stands.Goals as goal
 
 pub returns : goal.returns
-returns c = promised
+returns c = record { whole = promised; heard = promised_heard }

@@ -1,4 +1,4 @@
-use Rattle.std.proofs.Common.{◌≡◌, ◌+◌, ◌<◌, ◌≤◌, [], ◌∷◌, length, sym, refl, ap, arith}
+use Rattle.std.proofs.Common.{[], ◌∷◌, refl, arith}
 use Rattle.volume.specs.Reads.{placed}
 use Rattle.volume.proofs.Laws.{unique}
 use Rattle.volume.proofs.Walks.{tail_none, tail-whole, tail_more, falls, stopped, damaged}

@@ -1,7 +1,7 @@
-use Rattle.std.proofs.Common.{◌≡◌, ◌+◌, ◌<◌, ◌≤◌, true, List, [], ◌∷◌, length, Some, None, sym, refl, ap, ◌∙◌, arith}
+use Rattle.std.proofs.Common.{[], ◌∷◌, Some, sym, ap, ◌∙◌, arith}
 use Rattle.std.proofs.lemmas.Slice.Eq.{slice_eq-Decides}
 use Rattle.std.proofs.lemmas.Bool.{true≢false}
-use Rattle.volume.specs.Bundles.{Bundle, Volume, newest}
+use Rattle.volume.specs.Bundles.{newest}
 use Rattle.volume.specs.Reads.{placed}
 use Rattle.volume.proofs.Laws.{unique}
 use Rattle.volume.proofs.Walks.{tail_none, tail-whole, tail_more, falls, stopped, stopped_none, newest-none, newest-tail}

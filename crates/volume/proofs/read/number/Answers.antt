@@ -1,4 +1,4 @@
-use Rattle.std.proofs.Common.{◌≡◌, ℕ, suc, ◌+◌, ◌*◌, ◌^◌, ◌<◌, [], ◌∷◌, ◌++◌, length, get_or, take, sym, refl, ap, ◌∙◌, subst, add-one, arith}
+use Rattle.std.proofs.Common.{◌≡◌, suc, ◌+◌, ◌*◌, ◌^◌, ◌<◌, [], ◌∷◌, ◌++◌, length, get_or, sym, refl, ap, ◌∙◌, subst, add-one, arith}
 use Rattle.std.proofs.lemmas.List.{take_more, take_all}
 use Rattle.volume.specs.Bundles.{big_endian}
 use Rattle.volume.proofs.Numbers.{big_endian-more, under_more, room-more}
@@ -8,11 +8,11 @@ pub loop-b-init : goal.loop-b-init
 unfolding big_endian
 loop-b-init c = (refl, omega arith)
 
-pub overflow-mul-n : goal.overflow-mul-n
-overflow-mul-n c = record { fits = omega (arith, room-more c.loop-b.b-index c.loop-b.n 0 (omega arith) (omega arith) c.loop-b.invariant.1) }
+pub overflow_mul-n : goal.overflow_mul-n
+overflow_mul-n c = record { fits = omega (arith, room-more c.loop-b.b-index c.loop-b.n 0 (omega arith) (omega arith) c.loop-b.invariant.1) }
 
-pub overflow-add-n : goal.overflow-add-n
-overflow-add-n c = record { fits = room-more c.loop-b.b-index c.loop-b.n _ (omega arith) (omega arith) c.loop-b.invariant.1 }
+pub overflow_add-n : goal.overflow_add-n
+overflow_add-n c = record { fits = room-more c.loop-b.b-index c.loop-b.n _ (omega arith) (omega arith) c.loop-b.invariant.1 }
 
 pub loop-b-preserved : goal.loop-b-preserved
 loop-b-preserved c =

@@ -1,4 +1,4 @@
-use Rattle.std.proofs.Common.{[], ◌∷◌, refl, arith}
+use Rattle.std.proofs.Common.{refl, arith}
 use Rattle.volume.specs.Bundles.{big_endian}
 use Rattle.volume.proofs.sample.example.Goals as goal
 

@@ -1,4 +1,4 @@
-use Rattle.std.proofs.Common.{◌≡◌, ℕ, ◌+◌, ◌-◌, true, cond, List, [], ◌∷◌, ◌++◌, map, reverse, length, is_ok, is_err, vec_items, sym, refl, ap, ◌∙◌, arith}
+use Rattle.std.proofs.Common.{◌≡◌, true, cond, [], ◌∷◌, ◌++◌, map, reverse, is_ok, vec_items, sym, ap, ◌∙◌, arith}
 use Rattle.std.proofs.lemmas.List.{map_push}
 use Rattle.volume.specs.Reads.{placed, laid}
 use Rattle.volume.proofs.Walks.{tail_none, tail-whole, tail_more, falls, stopped, damaged, laid_more}
@@ -14,7 +14,7 @@ pub loop-end-preserved : goal.loop-end-preserved
 loop-end-preserved c =
     let i = c.loop-end.invariant in
     let p = placed c.in-Ok.found in
-    let kept : is_ok c.push.result ≡ true = c.if-is-err.ensures.negation in
+    let kept : is_ok c.push.result ≡ true = c.if-is_err.ensures.negation in
     let grown : vec_items c.push.new.self ≡ vec_items c.loop-end.all ++ (c.in-Ok.found ∷ []) = c.push.ensures.items ∙ ap (λ t. cond t (vec_items c.loop-end.all ++ (c.in-Ok.found ∷ [])) (vec_items c.loop-end.all)) kept in (
       p.bundle ∷ i.0,
       tail_more c.args.bytes.now c.loop-end.end i.0 p i.1 c.in-Ok.ensures,

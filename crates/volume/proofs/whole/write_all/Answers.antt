@@ -1,6 +1,5 @@
-use Rattle.std.proofs.Common.{◌≡◌, ℕ, ◌+◌, ◌<◌, true, List, [], ◌∷◌, map, length, get_or, take, Some, sym, ap, ◌∙◌, subst, subst₂, arith}
+use Rattle.std.proofs.Common.{◌≡◌, ◌+◌, true, [], map, length, get_or, take, sym, ◌∙◌, subst, subst₂, arith}
 use Rattle.std.proofs.lemmas.List.{length-map, map_more, take-map, take_all, get_or-map}
-use Rattle.volume.specs.Bundles.{Bundle}
 use Rattle.volume.specs.Reads.{seen}
 use Rattle.volume.specs.Lists.{blank}
 use Rattle.volume.specs.Writes.{Packed, refusal}

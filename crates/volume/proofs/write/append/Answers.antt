@@ -1,4 +1,4 @@
-use Rattle.std.proofs.Common.{◌≡◌, ℕ, ◌+◌, true, length, None, sym, refl, zero-add, arith}
+use Rattle.std.proofs.Common.{◌≡◌, ◌+◌, true, length, None, sym, refl, zero-add, arith}
 use Rattle.volume.specs.Writes.{refusal}
 use Rattle.volume.proofs.Puts.{allowed, put-at, written}
 use Rattle.volume.proofs.write.append.Goals as goal
@@ -8,7 +8,7 @@ returns c =
     let region = c.args.region.now in
     let entity = c.args.bundle.entity.now in
     let name = c.args.bundle.name.now in
-    let verdict : None ≡ refusal true (length region) (0 + c.args.used) (length entity) (length name) = c.in-default.ensures in
+    let verdict : None ≡ refusal true (length region) (0 + c.args.used) (length entity) (length name) = c.in_default.ensures in
     record {
       verdict = verdict;
       done =

@@ -1,4 +1,4 @@
-use Rattle.std.proofs.Common.{◌≡◌, ℕ, ◌+◌, ◌-◌, ◌≤◌, leb, ◌++◌, length, take, drop, None, sym, refl, ap, ◌∙◌, subst, arith, length-drop, leb-true}
+use Rattle.std.proofs.Common.{◌≡◌, ◌+◌, ◌-◌, ◌≤◌, leb, ◌++◌, length, take, drop, None, sym, refl, ap, ◌∙◌, subst, arith, length-drop, leb-true}
 use lib.Seq.{paste}
 use Rattle.std.proofs.lemmas.List.{length-take-le}
 use Rattle.volume.specs.Bundles.{trailer}
@@ -16,16 +16,16 @@ returns c =
     let used = c.args.volume.len in
     let end = c.close-end.result in
     let entity = take len (drop from region) in
-    let mid = c.copy-within.new.self in
-    let raw : None ≡ refusal c.lies-before-before.result (length region) (base + used) len (length name) = c.in-default.ensures in
-    let verdict : None ≡ refusal (leb (from + len) base) (length region) (base + used) len (length name) = raw ∙ ap (λ t. refusal t (length region) (base + used) len (length name)) c.lies-before-before.ensures in
+    let mid = c.copy_within.new.self in
+    let raw : None ≡ refusal c.lies_before-before.result (length region) (base + used) len (length name) = c.in_default.ensures in
+    let verdict : None ≡ refusal (leb (from + len) base) (length region) (base + used) len (length name) = raw ∙ ap (λ t. refusal t (length region) (base + used) len (length name)) c.lies_before-before.ensures in
     let ok = allowed (leb (from + len) base) (length region) (base + used) len (length name) (sym verdict) in
     let before : from + len ≤ base = leb-true (from + len) base ok.lies in
     let there : len ≤ length (drop from region) = omega (arith, length-drop from region, ok.room) in
     let long : length entity ≡ len = length-take-le len (drop from region) there in
     let back : from + len - from ≡ len = omega arith in
     let copied : Put region (base + used) entity mid (base + used + len) =
-    subst (λ m. Put region (base + used) entity m (base + used + len)) (sym (c.copy-within.ensures.after ∙ ap (paste region (base + used) (drop from region)) back)) (put-pasted region (drop from region) (base + used) len there) in
+    subst (λ m. Put region (base + used) entity m (base + used + len)) (sym (c.copy_within.ensures.after ∙ ap (paste region (base + used) (drop from region)) back)) (put-pasted region (drop from region) (base + used) len there) in
     let closed : Put mid (base + used + len) (name ++ trailer (length entity + length name) (length name)) c.close-end.new.region end =
     subst (λ k. Put mid (base + used + len) (name ++ trailer (k + length name) (length name)) c.close-end.new.region end) (sym long) c.close-end.ensures in
     let whole : end ≡ base + (end - base) = omega (arith, c.close-end.ensures.ends) in

@@ -1,7 +1,7 @@
-use Rattle.std.proofs.Common.{◌≡◌, ℕ, ◌+◌, ◌-◌, ◌≤◌, List, [], ◌∷◌, ◌++◌, length, take, drop, replicate, vec_items, vec_len, sym, refl, ap, ◌∙◌, subst, append-nil, zero-add, arith}
+use Rattle.std.proofs.Common.{◌≡◌, ℕ, ◌+◌, ◌-◌, List, [], ◌++◌, length, take, drop, replicate, vec_items, vec_len, sym, refl, ap, ◌∙◌, subst, append-nil, zero-add, arith}
 use Rattle.std.proofs.ByRecursion.{All-push}
 use Rattle.std.proofs.lemmas.List.{take_at, drop_all, flat_map_more}
-use Rattle.volume.specs.Bundles.{Bundle, bytes_of, Proper, Volume}
+use Rattle.volume.specs.Bundles.{Bundle, bytes_of, Proper}
 use Rattle.volume.specs.Reads.{seen, Counted}
 use Rattle.volume.specs.Writes.{Appended}
 use Rattle.volume.proofs.Joins.{length-bytes_of}
@@ -30,9 +30,9 @@ returns-in-Ok-append c =
     let region = c.in-Ok.region in
     let b = seen c.args.bundle in
     let wide = c.in-Ok.ensures in
-    let lent = c.as-mut-slice.ensures in
+    let lent = c.as_mut_slice.ensures in
     let after = c.append.new.region in
     let long : length after ≡ vec_len region = c.append.auto.region ∙ lent.len in
     let same : take (vec_len region) (after ++ drop (length after) (vec_items region)) ≡ after = take_at after _ (vec_len region) long in
     subst (Added old b) (sym same)
-    (behind old (replicate (size_with old b - length old) 0) c.as-mut-slice.result.now after b c.in-default.field-0 c.in-Ok-append.field-0 (lent.value ∙ wide.0) (lent.len ∙ wide.1) c.in-default.ensures.exact c.in-Ok-append.ensures.done)
+    (behind old (replicate (size_with old b - length old) 0) c.as_mut_slice.result.now after b c.in_default.field-0 c.in-Ok-append.field-0 (lent.value ∙ wide.0) (lent.len ∙ wide.1) c.in_default.ensures.exact c.in-Ok-append.ensures.done)

@@ -1,4 +1,4 @@
-use Rattle.std.proofs.Common.{◌≡◌, ℕ, ◌+◌, ◌*◌, List, [], ◌∷◌, ◌++◌, length, take, drop, sym, refl, ap, ◌∙◌, subst, arith}
+use Rattle.std.proofs.Common.{◌≡◌, ℕ, ◌*◌, List, [], ◌∷◌, ◌++◌, length, take, drop, sym, refl, ap, ◌∙◌, subst, arith}
 use Rattle.std.specs.Vec.{with_items}
 use Rattle.std.proofs.lemmas.List.{length-set, with_items_is}
 use Rattle.volume.specs.Bundles.{Bundle, Volume}
@@ -18,15 +18,15 @@ module _ (c : In-Ok) where
   abbrev bundle : Bundle
   bundle = record { entity = slot_bytes s c.args.slot; name = c.args.name.now }
 
-  appended : Appended (items s) (16 * s.capacity) s.used bundle c.append-within.new.region c.in-Ok.end
+  appended : Appended (items s) (16 * s.capacity) s.used bundle c.append_within.new.region c.in-Ok.end
   appended =
-      subst (λ (l : List ℕ). Appended l (16 * s.capacity) s.used (record { entity = take (length_of s.lengths c.args.slot) (drop (c.args.slot * s.capacity) l); name = c.args.name.now }) c.append-within.new.region c.in-Ok.end)
-      c.deref-mut.ensures.value c.in-Ok.ensures.done
+      subst (λ (l : List ℕ). Appended l (16 * s.capacity) s.used (record { entity = take (length_of s.lengths c.args.slot) (drop (c.args.slot * s.capacity) l); name = c.args.name.now }) c.append_within.new.region c.in-Ok.end)
+      c.deref_mut.ensures.value c.in-Ok.ensures.done
 
-  held_by : (with_items s.region c.append-within.new.region).items ≡ c.append-within.new.region
-  held_by = with_items_is s.region c.append-within.new.region (c.append-within.auto.region ∙ (ap length c.deref-mut.ensures.value ∙ length-items s))
+  held_by : (with_items s.region c.append_within.new.region).items ≡ c.append_within.new.region
+  held_by = with_items_is s.region c.append_within.new.region (c.append_within.auto.region ∙ (ap length c.deref_mut.ensures.value ∙ length-items s))
 
-  holds : ∥ Holds (volume_bytes (with_items s.region c.append-within.new.region).items s.capacity c.in-Ok.end) ∥₁
+  holds : ∥ Holds (volume_bytes (with_items s.region c.append_within.new.region).items s.capacity c.in-Ok.end) ∥₁
   holds =
       ∣ (
         bundles s ++ (bundle ∷ []),
@@ -34,25 +34,25 @@ module _ (c : In-Ok) where
             (appended.volume (bundles s) (reading (volume_of s) s.volume).1),
       ) ∣₁
 
-pub invariant-of-self : goal.invariant-of-self
-invariant-of-self c =
+pub invariant_of-self : goal.invariant_of-self
+invariant_of-self c =
     let s = c.args.self.now in
-    let o = (goal.at.invariant-of-self c).In-Ok in (
-      length-set s.lengths c.args.slot 0 ∙ s.held,
-      (
-        within-set s c.args.slot 0 c.requires.slot (omega arith),
-        (omega (arith, (appended o).ranges, length-items s), (holds o, tt)),
-      ),
-    )
+    let o = (goal.at.invariant_of-self c).In-Ok in
+    record {
+      held = length-set s.lengths c.args.slot 0 ∙ s.held;
+      within = within-set s c.args.slot 0 c.requires.slot (omega arith);
+      fits = omega (arith, (appended o).fits, length-items s);
+      volume = holds o;
+    }
 
 pub unreachable-requires : goal.unreachable-requires
 unreachable-requires c =
     let s = c.args.self.now in
     some-none c.in-Err.field-0
-    (c.in-Err.ensures.verdict ∙ not-refused s c.args.slot c.args.name.now (length c.deref-mut.result.now) c.requires (ap length c.deref-mut.ensures.value ∙ length-items s))
+    (c.in-Err.ensures.verdict ∙ not-refused s c.args.slot c.args.name.now (length c.deref_mut.result.now) c.requires (ap length c.deref_mut.ensures.value ∙ length-items s))
 
 pub returns : goal.returns
 returns c =
     let s = c.args.self.now in
     let o = (goal.at.returns c).In-Ok in
-    publishing-is s _ c.args.slot c.args.name.now c.append-within.new.region (held_by o) refl refl (appended o)
+    publishing-is s _ c.args.slot c.args.name.now c.append_within.new.region (held_by o) refl refl (appended o)

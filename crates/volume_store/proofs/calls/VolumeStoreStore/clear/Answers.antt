@@ -1,6 +1,6 @@
-use Rattle.std.proofs.Common.{◌≡◌, refl, arith}
+use Rattle.std.proofs.Common.{refl, arith}
 use Rattle.volume_store.specs.Stores.{cleared, cleared-none}
-use Rattle.volume_store.proofs.store.VolumeStoreStore.clear.Goals as goal
+use Rattle.volume_store.proofs.calls.VolumeStoreStore.clear.Goals as goal
 
 pub returns-then-slot-lt-SLOTS : goal.returns-then-slot-lt-SLOTS
 returns-then-slot-lt-SLOTS c = record {

@@ -1,10 +1,10 @@
-use Rattle.std.proofs.Common.{◌≡◌, ℕ, ◌<◌, ◌≤◌, List, [], length, sym, refl, ap, ◌∙◌, subst, ⊎_elim, arith}
+use Rattle.std.proofs.Common.{◌≡◌, ℕ, ◌<◌, ◌≤◌, List, [], length, sym, subst, ⊎_elim, arith}
 use Rattle.std.proofs.lemmas.Bool.{le-leb, cases_lt}
 use Rattle.std.proofs.lemmas.List.{nil_from_length}
 use Rattle.store.specs.Meaning.{Added}
 use Rattle.volume_store.specs.Store.{meaning_of, Adding}
 use Rattle.volume_store.specs.Stores.{added, added_none, adding-none, room_in, room_out}
-use Rattle.volume_store.proofs.store.VolumeStoreStore.add.Goals as goal
+use Rattle.volume_store.proofs.calls.VolumeStoreStore.add.Goals as goal
 
 pub stage-requires : goal.stage-requires
 stage-requires c =

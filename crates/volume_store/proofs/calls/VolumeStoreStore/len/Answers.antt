@@ -1,6 +1,6 @@
 use Rattle.std.proofs.Common.{length, sym, ap, ◌∙◌}
 use Rattle.volume_store.specs.Stores.{held_in, length-slot}
-use Rattle.volume_store.proofs.store.VolumeStoreStore.len.Goals as goal
+use Rattle.volume_store.proofs.calls.VolumeStoreStore.len.Goals as goal
 
 pub returns-then-slot-lt-SLOTS : goal.returns-then-slot-lt-SLOTS
 returns-then-slot-lt-SLOTS c =
