@@ -1,9 +1,9 @@
 -- What a request that was carried out, or refused, comes to.
-use Rattle.std.proofs.Common.{◌≡◌, ℕ, zero, suc, ◌+◌, ◌<◌, Bool, true, false, cond, not, ◌&&◌, eqb, ◌⊎◌, List, [], ◌∷◌, ◌++◌, length, set, is_some, Some, None, Ok, Err, Option, Result, sym, refl, ap, ◌∙◌, subst, inl, inr, arith, eqb-true}
+use Rattle.std.proofs.Common.{◌≡◌, ℕ, zero, suc, ◌<◌, Bool, true, false, cond, not, ◌&&◌, eqb, ◌⊎◌, List, [], ◌∷◌, ◌++◌, length, set, is_some, Some, None, Ok, Err, Option, Result, sym, refl, ap, ◌∙◌, subst, inl, inr, arith, eqb-true}
 use Rattle.std.specs.Str.{bytes_eq}
 use Rattle.std.proofs.lemmas.List.{get_or-set_same}
 use Rattle.std.proofs.lemmas.Bool.{true≢false}
-use Rattle.ack.specs.Told.{ack_of, answered, handed_over, received_of, reply_of}
+use Rattle.ack.specs.Told.{ack_of, answered, handed_over}
 use Rattle.ack.specs.declared.told.Call.{Call}
 use Rattle.ack.specs.declared.told.Call.TheVariants as call
 use Rattle.ack.specs.declared.told.Progress.{Progress}
@@ -20,7 +20,7 @@ use Rattle.packet.specs.declared.ranges.Range.{Range}
 use Rattle.store.specs.Meaning.{Change}
 use Rattle.session.specs.Rules.{close_fault, create_fault, fragment_fault, grown, is_away, is_free, is_of, opened as beginning}
 use Rattle.session.specs.Sessions.{Live, World, index_of, row}
-use Rattle.session.specs.Plans.{Plan, refuse, take, close, cancel, create, action_plan, changes_of, create_plan, found, in_row, is_ping, is_whole, outcome_of, ping, plan_of, stands, unless, with_live, with_row}
+use Rattle.session.specs.Plans.{Plan, refuse, take, close, create, action_plan, changes_of, create_plan, found, in_row, is_ping, is_whole, outcome_of, ping, plan_of, stands, unless, with_live, with_row}
 use Rattle.session.specs.Steps.{Done}
 use Rattle.session.specs.Told.{found_in, id_in, is_away_now, new_at, newly_away, request_ack, row_at}
 use Rattle.session.specs.declared.records.Settings.{Settings}

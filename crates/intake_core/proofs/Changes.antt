@@ -1,5 +1,5 @@
 -- One change of a store more.
-use Rattle.std.proofs.Common.{◌≡◌, ℕ, suc, ◌+◌, List, [], ◌∷◌, ◌++◌, sym, refl, subst, add-one}
+use Rattle.std.proofs.Common.{ℕ, ◌+◌, List, [], ◌∷◌, ◌++◌, sym, refl, subst, add-one}
 use Rattle.store.specs.Meaning.{Change}
 use Rattle.store.specs.Meaning.Change.{clearing}
 use Rattle.intake_core.specs.Worlds.{Changed, clearings}

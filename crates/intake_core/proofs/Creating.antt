@@ -5,7 +5,7 @@ use Rattle.outcome.specs.declared.Outcome.TheVariants.{DestinationStands, StoreF
 use Rattle.store.specs.Answers.{length_of}
 use Rattle.session.specs.Sessions.{World, Phase, receiving, away, ready, index_of}
 use Rattle.session.specs.Rules.{close_fault, create_fault, forbidden, is_free}
-use Rattle.session.specs.Plans.{Plan, refuse, create, unless, in_row, stands, create_plan}
+use Rattle.session.specs.Plans.{refuse, create, unless, in_row, stands, create_plan}
 use Rattle.session.specs.declared.records.Settings.{Settings}
 
 pub stands-told : (o : Option (List ℕ)) → is_some (length_of o) ≡ is_some o

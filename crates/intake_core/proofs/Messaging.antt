@@ -1,5 +1,5 @@
 -- A message that was read, or not, as a whole.
-use Rattle.std.proofs.Common.{◌≡◌, ℕ, ◌+◌, Bool, true, false, cond, ltb, List, [], length, Some, None, Ok, Err, MatchBool, Option, Result, sym, refl, ap, ◌∙◌, subst}
+use Rattle.std.proofs.Common.{◌≡◌, ℕ, ◌+◌, true, false, cond, ltb, List, [], length, None, Ok, Err, MatchBool, Option, Result, sym, refl, ap, ◌∙◌, subst}
 use Rattle.ack.specs.Told.{Ack, ack_of, answered}
 use Rattle.ack.specs.declared.told.Call.TheVariants as call
 use Rattle.outcome.specs.Outcomes.{report_of}
@@ -16,7 +16,7 @@ use Rattle.session.specs.Sessions.{World}
 use Rattle.session.specs.Steps.{MessageDone, ReadDone, fault_outcome, message_outcome, message_used, read_outcome, read_used}
 use Rattle.session.specs.Told.{message_ack, message_changes, newly_away, read_ack, read_changes, request_ack}
 use Rattle.session.specs.declared.records.Settings.{Settings}
-use Rattle.intake_core.specs.Worlds.{Acting, Changed, noticed}
+use Rattle.intake_core.specs.Worlds.{Acting, Changed}
 use Rattle.intake_core.specs.declared.messages.Acted.{Acted}
 use Rattle.intake_core.proofs.Acting.{newly-none}
 

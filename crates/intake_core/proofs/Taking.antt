@@ -1,9 +1,9 @@
 -- What the verdict on a fragment says.
-use Rattle.std.proofs.Common.{◌≡◌, ℕ, ◌+◌, ◌-◌, ◌<◌, ◌≤◌, min, Bool, true, false, cond, not, ◌||◌, eqb, ltb, leb, List, length, is_ok, Some, None, Ok, Err, Option, Result, sym, refl, ap, ◌∙◌, subst, arith, length-drop, ltb-false, eqb-true}
+use Rattle.std.proofs.Common.{◌≡◌, ℕ, ◌+◌, ◌-◌, ◌≤◌, min, Bool, true, false, cond, not, ◌||◌, eqb, ltb, leb, List, length, is_ok, Some, None, Ok, Err, Option, Result, sym, refl, ap, ◌∙◌, subst, arith, length-drop, ltb-false, eqb-true}
 use Rattle.std.proofs.lemmas.Bool.{true≢false}
 use Rattle.store.specs.Answers.{Accepted}
 use Rattle.outcome.specs.declared.Outcome.{Outcome}
-use Rattle.outcome.specs.declared.Outcome.TheVariants.{Done, CutBody, AtApprover, WrongRange, TooLarge, Gap, StoreFull}
+use Rattle.outcome.specs.declared.Outcome.TheVariants.{AtApprover, WrongRange, TooLarge, Gap, StoreFull}
 use Rattle.packet.specs.declared.ranges.Range.{Range}
 use Rattle.packet.specs.Packets.{Request}
 use Rattle.session.specs.Plans.{fresh, take, unless}

@@ -1,5 +1,5 @@
 -- A row that was lent and changed, seen in the whole world.
-use Rattle.std.proofs.Common.{◌≡◌, ℕ, ◌<◌, Bool, true, false, List, map, length, get_or, set, Some, None, Ok, Err, Option, Result, sym, refl, ap, ◌∙◌, subst}
+use Rattle.std.proofs.Common.{◌≡◌, ℕ, ◌<◌, false, List, map, length, get_or, set, Some, None, Ok, Err, Option, Result, sym, refl, ap, ◌∙◌, subst}
 use Rattle.std.proofs.lemmas.List.{get_or-map, map-set, set-get_or}
 use Rattle.outcome.specs.declared.Outcome.{Outcome}
 use Rattle.packet.specs.Packets.{Request}
@@ -9,7 +9,7 @@ use Rattle.packet.specs.declared.ranges.Range.{Range}
 use Rattle.store.specs.Meaning.{Meaning, Change}
 use Rattle.session.specs.Rules.{close_fault, fragment_fault}
 use Rattle.session.specs.Sessions.{Live, World, row, row_of}
-use Rattle.session.specs.Plans.{Plan, refuse, take, close, cancel, changes_of, outcome_of, stands, unless, with_live, with_row}
+use Rattle.session.specs.Plans.{Plan, take, close, changes_of, outcome_of, stands, unless, with_live, with_row}
 use Rattle.session.specs.Steps.{Done, Written}
 use Rattle.session.specs.declared.records.Session.{Session}
 use Rattle.session.specs.declared.records.Settings.{Settings}

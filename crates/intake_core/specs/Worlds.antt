@@ -1,5 +1,5 @@
 -- The world that an intake stands for, and what its calls do to it and to its store.
-use Rattle.std.specs.Prelude.{◌≡◌, ℕ, zero, suc, ◌+◌, ◌<◌, Bool, true, false, cond, ◌&&◌, ◌⊎◌, List, [], ◌∷◌, ◌++◌, map, length, Some, None, Ok, Err, Option, Result, ◌==◌}
+use Rattle.std.specs.Prelude.{◌≡◌, ℕ, zero, suc, ◌+◌, Bool, true, false, cond, ◌&&◌, ◌⊎◌, List, [], ◌∷◌, ◌++◌, map, length, Some, None, Ok, Err, Option, Result, ◌==◌}
 use Rattle.std.specs.Option.{option_map}
 use Rattle.ack.specs.Told.{ack_of, handed_over, received_of, reply_of}
 use Rattle.ack.specs.declared.told.Call.{Call}
@@ -19,7 +19,7 @@ use Rattle.store.specs.Meaning.{Meaning, Change, Added, Cleared, Published}
 use Rattle.store.specs.Meaning.Change.{adding, clearing, publishing}
 use Rattle.session.specs.Sessions.{Live, World, live, row, row_of}
 use Rattle.session.specs.Plans.{Plan, refuse, ping, create, take, close, cancel, changes_of, close_plan, fresh, is_whole, outcome_of, plan_of, take_plan, with_live}
-use Rattle.session.specs.Steps.{Done, Opened, Written, fault_outcome}
+use Rattle.session.specs.Steps.{Done, Opened, fault_outcome}
 use Rattle.session.specs.Told.{address_told, found_in, is_away_now, newly_away, request_ack}
 use Rattle.session.specs.declared.records.Session.{Session}
 use Rattle.session.specs.declared.records.Settings.{Settings}

@@ -11,7 +11,7 @@ ghost use Rattle.intake_core.specs.Worlds.{noticed, world_of};
 
 use crate::intake::Intake;
 use crate::notice::Notice;
-use crate::reply::{Reply, progress_of, written};
+use crate::replies::{Reply, progress_of, written};
 use ack::{Call, LEAST_PAGE, Progress, Stage};
 use ids::SessionId;
 use outcome::Outcome;

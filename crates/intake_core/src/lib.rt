@@ -1,11 +1,13 @@
 // The intake: setting up, message, answer and tick, over any store that keeps its meaning.
+#![tactic(auto)]
+
 mod answers;
 mod calls;
 mod faults;
 mod intake;
 mod messages;
 mod notice;
-mod reply;
+mod replies;
 mod steps;
 mod ticks;
 
@@ -13,4 +15,4 @@ pub use answers::Verdict;
 pub use calls::BadSetting;
 pub use intake::Intake;
 pub use notice::Notice;
-pub use reply::Reply;
+pub use replies::Reply;

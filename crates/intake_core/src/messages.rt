@@ -12,7 +12,7 @@ ghost use Rattle.intake_core.specs.Worlds.{Acting, Changed, Ends, IsFragmentOf, 
 use crate::faults::Refused;
 use crate::intake::Intake;
 use crate::notice::Notice;
-use crate::reply::{Reply, progress_of, written};
+use crate::replies::{Reply, progress_of, written};
 use crate::steps::settle;
 use ack::{Call, LEAST_PAGE, Progress, Stage};
 use ids::SessionId;

@@ -1,4 +1,4 @@
-use Rattle.std.proofs.Common.{◌≡◌, ◌≢◌, refl, ◌∙◌, subst, arith, below_more}
+use Rattle.std.proofs.Common.{◌≡◌, ◌≢◌, ◌∙◌, subst, arith, below_more}
 use Rattle.intake_core.specs.Worlds.{Changed, clearings}
 use Rattle.intake_core.proofs.Changes.{clearings-more}
 use Rattle.intake_core.proofs.calls.cleared.Goals as goal

@@ -1,4 +1,4 @@
-use Rattle.std.proofs.Common.{◌≡◌, sym, refl, ap, ◌∙◌, subst}
+use Rattle.std.proofs.Common.{refl}
 use Rattle.packet.specs.Packets.{request}
 use Rattle.intake_core.specs.Worlds.{world_of}
 use Rattle.intake_core.proofs.Acting.{fragment-acting}
@@ -10,6 +10,6 @@ returns g c =
     let end = c.visit-result.new.self in
     let kind = c.requires.kind in
     record {
-      acting = fragment-acting g.S.Store.made self.settings (world_of g.S.Store.meaning self) (request c.args.packet.now) c.args.id kind.0 kind.1 self.store (world_of g.S.Store.meaning end) end.store c.requires.on kind.2 c.find-row.result c.progress-in-progress.result c.visit-result.result _ c.find-row.ensures.value c.visit-result.ensures.visited c.progress-in-progress.ensures c.outcome-in-outcome.ensures refl c.notice-for-notice.ensures;
+      acting = fragment-acting g.S.Store.made self.settings (world_of g.S.Store.meaning self) (request c.args.packet.now) c.args.id kind.0 kind.1 self.store (world_of g.S.Store.meaning end) end.store c.requires.on kind.2 c.find-row.result c.progress_in-progress.result c.visit-result.result _ c.find-row.ensures.value c.visit-result.ensures.visited c.progress_in-progress.ensures c.outcome_in-outcome.ensures refl c.notice_for-notice.ensures;
       settings = c.visit-result.ensures.settings;
     }

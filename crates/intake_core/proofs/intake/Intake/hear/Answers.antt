@@ -7,8 +7,8 @@ pub returns : goal.returns
 returns g c =
     let self = c.args.self.now in
     record {
-      heard = answered self.rows self.next self.clock (g.S.Store.meaning self.store) c.args.serial c.in-Some.i (word_of c.args.verdict) c.ruling-stage.result.0 c.rule.new.row _ _ c.ruling-stage.result.1 c.progress-of.result
-          (sym c.first-row.ensures.value ∙ c.in-Some.is) c.ruling-stage.ensures.outcome c.ruling-stage.ensures.stage c.rule.ensures c.progress-of.ensures.received c.progress-of.ensures.reply;
+      heard = answered self.rows self.next self.clock (g.S.Store.meaning self.store) c.args.serial c.in-Some.i (word_of c.args.verdict) c.ruling-stage.result.0 c.rule.new.row _ _ c.ruling-stage.result.1 c.progress_of.result
+          (sym c.first_row.ensures.value ∙ c.in-Some.is) c.ruling-stage.ensures.outcome c.ruling-stage.ensures.stage c.rule.ensures c.progress_of.ensures.received c.progress_of.ensures.reply;
       store = refl;
       settings = refl;
     }

@@ -1,18 +1,17 @@
-use Rattle.std.proofs.Common.{◌≡◌, ℕ, true, false, ltb, ◌++◌, length, drop, Option, sym, refl, ap, ◌∙◌, subst, arith, le-ltb, lt-ltb}
+use Rattle.std.proofs.Common.{◌++◌, length, drop, sym, refl, ap, ◌∙◌, arith, le-ltb, lt-ltb}
 use Rattle.ack.specs.Text.{ack_bytes}
 use Rattle.session.specs.Sessions.{World}
-use Rattle.session.specs.declared.records.Settings.{Settings}
-use Rattle.intake_core.specs.Worlds.{world_of, noticed}
+use Rattle.intake_core.specs.Worlds.{world_of}
 use Rattle.intake_core.proofs.Messaging.{came-read, came-short, came-unread, newly-same}
 use Rattle.intake_core.proofs.Acting.{newly-none}
 use Rattle.intake_core.proofs.intake.Intake.message.Goals as goal
 
-pub returns-then-page-lt-LEAST-PAGE : goal.returns-then-page-lt-LEAST-PAGE
-returns-then-page-lt-LEAST-PAGE g c =
+pub returns-then-page-lt-LEAST_PAGE : goal.returns-then-page-lt-LEAST_PAGE
+returns-then-page-lt-LEAST_PAGE g c =
     let self = c.args.self.now in
     let w : World = world_of g.S.Store.meaning self in
     let page = c.args.page.now in
-    let came = came-short g.S.Store.made self.settings w (length page) c.args.input.now self.store (lt-ltb (length page) 1024 (omega (arith, c.if-page-lt-LEAST-PAGE.true))) in
+    let came = came-short g.S.Store.made self.settings w (length page) c.args.input.now self.store (lt-ltb (length page) 1024 (omega (arith, c.if-page-lt-LEAST_PAGE.true))) in
     record {
       outcome = came.outcome-is;
       done = came.done;
@@ -34,7 +33,7 @@ returns-in-Ok g c =
     let v : World = world_of g.S.Store.meaning end in
     let page = c.args.page.now in
     let got = c.in-Ok.ensures.received in
-    let came = came-read g.S.Store.made self.settings w (length page) c.args.input.now self.store v end.store (le-ltb (length page) 1024 (omega (arith, c.if-page-lt-LEAST-PAGE.false))) got.0 c.in-Ok.acted c.in-Ok.used got.1 got.2 got.3 in
+    let came = came-read g.S.Store.made self.settings w (length page) c.args.input.now self.store v end.store (le-ltb (length page) 1024 (omega (arith, c.if-page-lt-LEAST_PAGE.false))) got.0 c.in-Ok.acted c.in-Ok.used got.1 got.2 got.3 in
     record {
       outcome = came.outcome-is;
       done = came.done;
@@ -56,7 +55,7 @@ returns-in-Err g c =
     let v : World = world_of g.S.Store.meaning end in
     let page = c.args.page.now in
     let got = c.in-Err.ensures.received in
-    let came = came-unread g.S.Store.made self.settings w (length page) c.args.input.now self.store v end.store (le-ltb (length page) 1024 (omega (arith, c.if-page-lt-LEAST-PAGE.false))) got.0 c.in-Err.refused.outcome got.1 got.2 got.3 got.4 in
+    let came = came-unread g.S.Store.made self.settings w (length page) c.args.input.now self.store v end.store (le-ltb (length page) 1024 (omega (arith, c.if-page-lt-LEAST_PAGE.false))) got.0 c.in-Err.refused.outcome got.1 got.2 got.3 got.4 in
     record {
       outcome = came.outcome-is;
       done = came.done;

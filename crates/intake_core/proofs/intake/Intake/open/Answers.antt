@@ -1,4 +1,4 @@
-use Rattle.std.proofs.Common.{◌≡◌, map, set, Some, sym, refl, ap, ◌∙◌}
+use Rattle.std.proofs.Common.{map, set, Some, refl, ap, ◌∙◌}
 use Rattle.std.proofs.lemmas.List.{map-set}
 use Rattle.session.specs.Rules.{opened}
 use Rattle.session.specs.Sessions.{row_of}
@@ -9,7 +9,7 @@ returns g c =
     let self = c.args.self.now in
     record {
       opened = record {
-        rows = map-set row_of self.rows c.args.row (Some c.opened-session.result) ∙ ap (λ x. set (map row_of self.rows) c.args.row (Some x)) (c.opened-session.ensures ∙ ap (opened self.clock self.next) c.destination-of.ensures);
+        rows = map-set row_of self.rows c.args.row (Some c.opened_session.result) ∙ ap (λ x. set (map row_of self.rows) c.args.row (Some x)) (c.opened_session.ensures ∙ ap (opened self.clock self.next) c.destination_of.ensures);
         next = refl;
         clock = refl;
         cleared = c.clear.ensures.cleared;

@@ -1,4 +1,4 @@
-use Rattle.std.proofs.Common.{◌≡◌, refl}
+use Rattle.std.proofs.Common.{refl}
 use Rattle.packet.specs.Packets.{request}
 use Rattle.intake_core.specs.Worlds.{world_of}
 use Rattle.intake_core.proofs.Acting.{ping-acting}

@@ -1,7 +1,5 @@
-use Rattle.std.proofs.Common.{◌≡◌, ◌<◌, length, get_or, set, IfSome, sym, refl, ap, ◌∙◌, subst, arith, rules}
+use Rattle.std.proofs.Common.{◌<◌, length, get_or, IfSome, refl, ap, subst, rules}
 use Rattle.packet.specs.Packets.{request}
-use Rattle.session.specs.Plans.{with_row}
-use Rattle.intake_core.specs.Worlds.{Visited, live_plan, world_of}
 use Rattle.intake_core.proofs.Visiting.{visited}
 use Rattle.intake_core.proofs.intake.Intake.visit.Goals as goal
 
