@@ -1,4 +1,5 @@
 // Whole stories of uploads, told call by call, each with what was sent and what it came to.
+#![tactic(auto)]
 
 mod account;
 mod desk;

@@ -4,16 +4,16 @@ use Rattle.std.proofs.lemmas.List.{append-nil, drop-map, get_or-map, map-append,
 use Rattle.ack.specs.Text.{ack_bytes}
 use Rattle.history.specs.Law.{number}
 use Rattle.intake_core.specs.Verdicts.{word_of}
-use Rattle.intake_core.specs.Worlds.{noticed, serial_of}
+use Rattle.intake_core.specs.Worlds.{serial_of}
 use Rattle.intake_core.specs.declared.answers.Verdict.{Verdict}
 use Rattle.intake_core.specs.declared.notice.Notice.{Notice}
 use Rattle.law.specs.Heard.{Heard}
 use Rattle.outcome.specs.declared.Outcome.{Outcome}
 use Rattle.session.specs.Sessions.{World}
-use Rattle.session.specs.Steps.{AnswerDone, MessageDone, Ticked, Word, answer, answer_outcome, message, message_outcome, message_used, tick}
+use Rattle.session.specs.Steps.{AnswerDone, MessageDone, Ticked, answer, answer_outcome, message, message_outcome, message_used, tick}
 use Rattle.session.specs.Told.{answer_ack, message_ack}
 use Rattle.session.specs.declared.records.Settings.{Settings}
-use Rattle.runs.specs.Log.{Made, Tells, acks_of, length_in, listed}
+use Rattle.runs.specs.Log.{Made, acks_of}
 use Rattle.runs.specs.declared.calls.Call.{Call}
 use Rattle.runs.specs.declared.calls.Call.TheVariants as call
 use Rattle.runs.specs.declared.calls.Line.TheVariants as line

@@ -3,7 +3,7 @@ use Rattle.std.proofs.Common.{◌≡◌, ℕ, zero, suc, ◌+◌, ◌-◌, ◌<�
 use Rattle.std.proofs.lemmas.List.{append_assoc, append-nil, drop-drop, length-append, length-drop, length-take-le, take_all, take_more}
 use lib.Seq.{drop-append_seam, take-append_seam}
 use Rattle.ack.specs.Text.{ack_bytes}
-use Rattle.law.specs.Heard.{Heard, Said, Story}
+use Rattle.law.specs.Heard.{Heard, Story}
 use Rattle.law.proofs.Joins.{promised_heard}
 use Rattle.session.specs.Sessions.{World}
 use Rattle.session.specs.Steps.{Started}

@@ -1,4 +1,6 @@
 // A list of calls run on an intake newly set up, with the whole law over histories on its contract.
+#![tactic(auto)]
+
 ghost use Rattle.std.specs.Prelude.{◌≡◌, ◌+◌, ◌<◌, ◌≤◌, [], ◌++◌, map, length, Ok, Err, vec_len, vec_capacity};
 ghost use Rattle.intake_core.specs.Worlds.{noticed, serial_of, world_of};
 ghost use Rattle.runs.specs.Log.{Account, Made, Played, Stopped, desk_after, length_in, listed, size_of};

@@ -1,4 +1,4 @@
-use Rattle.std.proofs.Common.{◌≡◌, ℕ, ◌+◌, ◌<◌, ◌≤◌, List, ◌++◌, map, length, take, drop, vec_items, vec_len, sym, refl, ap, ◌∙◌, subst, arith}
+use Rattle.std.proofs.Common.{◌<◌, ◌++◌, map, length, vec_items, sym, refl, ap, ◌∙◌, subst, arith}
 use Rattle.std.proofs.lemmas.List.{length-map}
 use Rattle.intake_core.specs.Worlds.{serial_of, world_of}
 use Rattle.session.specs.Sessions.{World}
@@ -29,7 +29,7 @@ returns-then-at-lying g c =
     let items = vec_items c.args.desk.now in
     let desk = map serial_of items in
     record {
-      made = made_none c.args.intake.now.settings w desk c.args.page.now c.args.call c.in-Answer.page c.in-Answer.at c.in-Answer.verdict c.in-Answer.is (omega (arith, length-map items serial_of, ap length c.as-slice-lying.ensures.value, c.if-at-lying.true));
+      made = made_none c.args.intake.now.settings w desk c.args.page.now c.args.call c.in-Answer.page c.in-Answer.at c.in-Answer.verdict c.in-Answer.is (omega (arith, length-map items serial_of, ap length c.as_slice-lying.ensures.value, c.if-at-lying.true));
       desk = sym (ap (λ d. desk_after desk d line.Skipped) c.in-Answer.is);
       len = omega arith;
       capacity = refl;
@@ -49,7 +49,7 @@ returns-else-at-lying g c =
     let serial = c.serial-serial.result in
     let sets = c.args.intake.now.settings in
     let same = c.serial-serial.ensures in
-    let within : at < length items = omega (arith, ap length c.as-slice-lying.ensures.value, c.if-at-lying.false) in
+    let within : at < length items = omega (arith, ap length c.as_slice-lying.ensures.value, c.if-at-lying.false) in
     let lies : at < length desk = omega (arith, length-map items serial_of) in
     record {
       made = subst (λ n. Made sets w desk c.args.call page (line.Answer (length page) n r.outcome r.length c.file-in-Answer.result) c.answer-outcome.new.page v) (sym same)

@@ -1,4 +1,4 @@
-use Rattle.std.proofs.Common.{◌≡◌, map, vec_items, sym, refl, ap, ◌∙◌, subst}
+use Rattle.std.proofs.Common.{map, vec_items, ◌∙◌, subst}
 use Rattle.intake_core.specs.Worlds.{serial_of, world_of}
 use Rattle.runs.specs.Log.{Played}
 use Rattle.runs.proofs.Playing.{accounted}
