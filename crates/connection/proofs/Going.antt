@@ -1,5 +1,5 @@
 -- A connection that is being served.
-use Rattle.std.proofs.Common.{◌≡◌, ℕ, zero, suc, ◌+◌, ◌-◌, ◌<◌, ◌≤◌, Bool, true, false, cond, ltb, ◌⊎◌, List, [], ◌∷◌, ◌++◌, map, length, take, drop, Ok, Err, Result, sym, refl, ap, ◌∙◌, subst, inl, inr, append_assoc, append-nil, arith, le-ltb}
+use Rattle.std.proofs.Common.{◌≡◌, ℕ, zero, suc, ◌+◌, ◌-◌, ◌<◌, ◌≤◌, cond, ◌⊎◌, List, [], ◌++◌, map, length, take, drop, Ok, Err, Result, sym, refl, ap, ◌∙◌, subst, inl, inr, append_assoc, append-nil, arith, le-ltb}
 use borrow.Rule.Slice.PartMut.{mid_of, post_of, put_mid}
 use Rattle.std.proofs.lemmas.List.{drop_all, drop_at, drop-drop, length-append, length-drop, take_at, take_rest}
 use Rattle.packet.specs.Packets.{Request, packet_of}
@@ -12,7 +12,7 @@ use Rattle.session.specs.Steps.{MessageDone, message_used, read_used}
 use Rattle.session.specs.Told.{message_ack, message_changes, newly_away}
 use Rattle.intake_core.specs.Worlds.{Changed, world_of}
 use Rattle.intake_core.specs.declared.intake.Intake.{Intake}
-use Rattle.connection.specs.Serving.{Stop, Turn, Next, Turns, Served}
+use Rattle.connection.specs.Serving.{Stop, Turn, Turns, Served}
 
 -- a head has four bytes at least
 read-uses : (input : List ℕ) (r : Result Request Fault) → packet_of input ≡ r → 0 < length input → 0 < read_used input r
@@ -76,7 +76,7 @@ module _ {S : Type 0} (meaning : S → Meaning) (made : S → Change → S → T
       record {
         count = suc so.count;
         told = told ++ ack;
-        turns = (used, told, l, so.turns, record { own = own; ack = ack; turn = turned; used-is = refl; told_is = refl });
+        turns = (used, told, l, so.turns, record { own = own; ack = ack; turn = turned; used_is = refl; told_is = refl });
         put_is = (λ i. so.put_is i + sized i) ∙ sym (length-append told ack);
         bytes = (λ i. put_mid put (length (so.bytes i) - put) (so.bytes i) page) ∙ laid out told ack page put so.put_is (page-is ∙ (λ i. ack ++ drop (length ack) (mid_of put (length (so.bytes i) - put) (so.bytes i))));
         settings = turn.settings ∙ so.settings;
@@ -103,7 +103,7 @@ module _ {S : Type 0} (meaning : S → Meaning) (made : S → Change → S → T
   next used put cur l m own size serials page so left long done account kept own_is own_in notices size_is page-is same =
       let some : 0 < length (mid_of used (length input - used) input) = omega (arith, left, ap length (take_rest input used), length-drop used input) in
       let room : 1024 ≤ length (mid_of put (length cur - put) cur) = omega (arith, long, ap length (take_rest cur put), length-drop put cur) in (
-        step used put cur l m own size _ serials page so (record { more = some; page = room; done = done; account = account; settings = kept; used-is = own_is; told_is = refl; notices = notices }) own_in size_is page-is same,
+        step used put cur l m own size _ serials page so (record { more = some; page = room; done = done; account = account; settings = kept; used_is = own_is; told_is = refl; notices = notices }) own_in size_is page-is same,
         omega (arith, own_is, uses _ _ some room),
       )
 
@@ -111,7 +111,7 @@ module _ {S : Type 0} (meaning : S → Meaning) (made : S → Change → S → T
   began zero used told serials l (a, b, c, d) = inl (b, c, a)
   began (suc n) used told serials l (at, before, m, so, next) =
       let t = next.turn in
-      inr (omega (arith, next.used-is, t.used-is, uses _ _ t.more t.page))
+      inr (omega (arith, next.used_is, t.used_is, uses _ _ t.more t.page))
 
   module _ (used put : ℕ) (serials after : List ℕ) (l : Intake S) (so : Gone meaning made input out k used put serials after l) (why : Stop (length input) (length out) used put serials) where
     pub served : Served meaning made input out k used put serials after l

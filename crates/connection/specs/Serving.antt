@@ -16,7 +16,7 @@ pub record Turn {S : Type 0} (meaning : S → Meaning) (made : S → Change → 
   pub done : MessageDone k.settings (world_of meaning k) room input (world_of meaning l)
   pub account : Changed made k.store (message_changes k.settings (world_of meaning k) room input) l.store
   pub settings : l.settings ≡ k.settings
-  pub used-is : used ≡ message_used room input
+  pub used_is : used ≡ message_used room input
   pub told_is : told ≡ ack_bytes (message_ack k.settings (world_of meaning k) room input (world_of meaning l))
   pub notices : serials ≡ newly_away (map row_of k.rows) (map row_of l.rows)
 
@@ -26,7 +26,7 @@ pub record Next {S : Type 0} (meaning : S → Meaning) (made : S → Change → 
   pub own : ℕ
   pub ack : List ℕ
   pub turn : Turn meaning made (room - length before) (drop at input) k own ack serials l
-  pub used-is : used ≡ at + own
+  pub used_is : used ≡ at + own
   pub told_is : told ≡ before ++ ack
 
 -- n messages, the first on the whole input, each next one on what those before it left; only the last may have handed out a notice

@@ -1,4 +1,6 @@
 // The bytes that came over one connection: the messages in them, one behind another.
+#![tactic(auto)]
+
 ghost use Rattle.std.specs.Prelude.{◌<◌, ◌≤◌, length};
 ghost use Rattle.connection.specs.Serving.{Served};
 ghost use Rattle.intake_core.specs.Worlds.{noticed};

@@ -1,4 +1,5 @@
 // An intake over standard input and output: reads the bytes of one connection and writes what they are answered.
+#![tactic(auto)]
 
 mod service;
 

@@ -1,5 +1,7 @@
 // The intake for a caller outside that measures it: prepared messages go, round after round, to one new intake over
 // a new store.
+#![tactic(auto)]
+
 ghost use Rattle.std.specs.Prelude.{◌≡◌, ◌*◌, ◌<◌, ◌≤◌, length, drop, slice_set};
 ghost use Rattle.intake_bench.specs.Lines.{Counting, Telling};
 

@@ -1,4 +1,5 @@
 // Takes an intake to each of its limits, and prints what every call came to.
+#![tactic(auto)]
 
 mod cases;
 mod requests;

@@ -24,8 +24,8 @@ loop-i-preserved g c =
     let after : World = world_of g.S.Store.meaning c.message-outcome.new.self in
     let told : Told (get_or lengths i 0) line = record {
       listed = subst (λ n. n < 24) (sym (ap (λ r. r.number) c.report-number.ensures.value)) (listed _);
-      within = omega (arith, c.message-outcome.ensures.within, c.put-id.auto.message, c.part-message.ensures);
-      fits = omega (arith, c.message-outcome.ensures.length, front_fits (ack_bytes (message_ack c.loop-i.intake.settings before (length c.page-at-page.result.now) c.put-id.new.message after)) _ _ c.message-outcome.ensures.page, c.message-outcome.auto.page, c.page-at-page.ensures);
+      within = omega (arith, c.message-outcome.ensures.within, c.put_id.auto.message, c.part-message.ensures);
+      fits = omega (arith, c.message-outcome.ensures.length, front_fits (ack_bytes (message_ack c.loop-i.intake.settings before (length c.page_at-page.result.now) c.put_id.new.message after)) _ _ c.message-outcome.ensures.page, c.message-outcome.auto.page, c.page_at-page.ensures);
     } in
     let one : c.if-number-eq0.done ≡ c.loop-i.done + cond (eqb number 0) 1 0 = elim c.if-number-eq0.branch [
       | then-number-eq0+then-i-eq0 w ↦ one_more _ _ _ w.if-number-eq0.true w.done-is

@@ -1,10 +1,10 @@
-use Rattle.std.proofs.Common.{◌≡◌, ◌*◌, ◌<◌, ◌≤◌, length, ap, ◌∙◌, subst, arith}
+use Rattle.std.proofs.Common.{◌≡◌, ◌*◌, ◌≤◌, length, ◌∙◌, subst, arith}
 use Rattle.intake_bench.proofs.Counts.{some-round}
 use Rattle.intake_bench.proofs.send_all.Goals as goal
 
 pub returns : goal.returns
 returns g c =
-    let all : c.loop-round.-round ≡ c.args.plan.now.rounds = omega arith in
+    let all : c.loop-round._round ≡ c.args.plan.now.rounds = omega arith in
     let most : c.loop-round.done ≤ c.args.plan.now.rounds * length c.args.lengths.now = subst (λ n. c.loop-round.done ≤ n * length c.args.lengths.now) all c.loop-round.invariant.0 in
     record {
       most = most;

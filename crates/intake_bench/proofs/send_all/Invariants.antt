@@ -4,7 +4,7 @@ use Rattle.intake_bench.proofs.send_all.Given as goal
 
 abbrev pub invariant-loop-round : goal.invariant-loop-round
 invariant-loop-round g l =
-    (l.done ≤ l.-round * length l.lengths)
+    (l.done ≤ l._round * length l.lengths)
     × (drop (length l.lengths) l.lines ≡ drop (length l.lengths) l.initial.lines)
-    × (0 < l.-round → Telling l.lengths (length l.lengths) l.lines)
-    × (l.-round ≡ 1 → Counting l.lines (length l.lengths) l.done)
+    × (0 < l._round → Telling l.lengths (length l.lengths) l.lines)
+    × (l._round ≡ 1 → Counting l.lines (length l.lengths) l.done)
