@@ -45,7 +45,7 @@ type Rounds = unsafe extern "C" fn(
 macro_rules! rounds {
     ($($name:ident),*) => {
         #[link(name = "intake_bench", kind = "static")]
-        #[link(name = "rattle_c", kind = "static")]
+        #[link(name = "libc_c", kind = "static")]
         unsafe extern "C" {
             $(fn $name(
                 plan: *const Plan,
