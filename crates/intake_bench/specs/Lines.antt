@@ -1,5 +1,5 @@
 -- What the lines tell of a round of messages.
-use Rattle.std.specs.Prelude.{◌≡◌, ℕ, zero, suc, ◌+◌, ◌<◌, ◌≤◌, cond, List, length, get_or, ◌==◌, slice_index, slice_index_or}
+use Rattle.std.specs.Prelude.{◌≡◌, ℕ, zero, suc, ◌+◌, ◌<◌, ◌≤◌, cond, List, length, ◌==◌, slice_index, slice_index_or}
 use Rattle.intake_bench.specs.declared.Line.{Line}
 
 abbrev pub blank : Line
@@ -18,7 +18,7 @@ Telling lengths m lines = (i : ℕ) → i < m → i < length lines → Told (sli
 -- how many of the first m lines have number 0
 abbrev pub zeros : List Line → ℕ → ℕ
 zeros lines zero = 0
-zeros lines (suc m) = zeros lines m + cond ((get_or lines m blank).number == 0) 1 0
+zeros lines (suc m) = zeros lines m + cond ((slice_index_or lines m blank).number == 0) 1 0
 
 -- r is their number, where the lines reach so far
 abbrev pub Counting : List Line → ℕ → ℕ → Type 0

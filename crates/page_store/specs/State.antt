@@ -1,5 +1,5 @@
 -- Facts that hold of every page store.
-use Rattle.std.specs.Prelude.{◌≡◌, ℕ, ◌+◌, ◌*◌, ◌<◌, ◌≤◌, List, get_or, slice_index, slice_index_or}
+use Rattle.std.specs.Prelude.{◌≡◌, ℕ, ◌+◌, ◌*◌, ◌<◌, ◌≤◌, List, slice_index, slice_index_or}
 use Rattle.page_store.specs.declared.chain.Chain.{Chain}
 use Rattle.page_store.specs.declared.name.Name.{Name}
 use Rattle.page_store.specs.Names.{name_of, vacant}
@@ -15,8 +15,8 @@ Sparing chains lengths = (k : ℕ) → k < 48 → (length_of lengths k ≤ 4096 
 
 -- a row without a name holds nothing
 abbrev pub Nothing : List ℕ → List Name → Type 0
-Nothing lengths names = (e : ℕ) → e < 32 → (get_or names e vacant).len ≡ 0 → length_of lengths (16 + e) ≡ 0
+Nothing lengths names = (e : ℕ) → e < 32 → (slice_index_or names e vacant).len ≡ 0 → length_of lengths (16 + e) ≡ 0
 
 -- no name stands twice
 abbrev pub Single : List Name → Type 0
-Single names = (e f : ℕ) → (e < 32) × (f < 32) × (0 < (get_or names e vacant).len) × (name_of (slice_index_or names e vacant) ≡ name_of (slice_index_or names f vacant)) → e ≡ f
+Single names = (e f : ℕ) → (e < 32) × (f < 32) × (0 < (slice_index_or names e vacant).len) × (name_of (slice_index_or names e vacant) ≡ name_of (slice_index_or names f vacant)) → e ≡ f

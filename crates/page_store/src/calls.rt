@@ -1,5 +1,5 @@
 // What a page store does.
-ghost use Rattle.std.specs.Prelude.{◌≡◌, ℕ, ◌+◌, ◌*◌, ◌/◌, ◌<◌, ◌≤◌, true, ◌&&◌, ltb, length, is_ok, if◌then◌else◌, Ok, Err, vec_len, nat_lt};
+ghost use Rattle.std.specs.Prelude.{◌≡◌, ℕ, ◌+◌, ◌*◌, ◌/◌, ◌<◌, ◌≤◌, true, ◌&&◌, length, is_ok, if◌then◌else◌, Ok, Err, vec_len, nat_lt};
 ghost use Rattle.page_store.specs.Examples.{Two-pages};
 ghost use Rattle.page_store.specs.Names.{target};
 ghost use Rattle.page_store.specs.Pages.{total};
@@ -95,7 +95,7 @@ impl PageStore {
 
     // How many pages a slot owns: of two pages, a slot of 4,100 bytes owns both, and its room is what they have left.
     pub fn owned_pages(&self, slot: usize) -> usize
-        ensures owned { result ≡ (if ltb slot 16 then length (pages_at self.now slot) else 0) }
+        ensures owned { result ≡ (if nat_lt slot 16 then length (pages_at self.now slot) else 0) }
         ensures example { Two-pages }
     {
         if slot < SLOTS {

@@ -19,18 +19,18 @@ wish (Get f n) = get f.now n.now
 wish (Add f n) = add f.now n.now
 wish Help = help
 
-abbrev pub lone-asked : List ℕ → Option Wish
-lone-asked v = cond (bytes_eq v (codes "help")) (Some help) None
+abbrev pub lone_asked : List ℕ → Option Wish
+lone_asked v = cond (bytes_eq v (codes "help")) (Some help) None
 
-abbrev pub file-asked : List ℕ → List ℕ → Option Wish
-file-asked v f = cond (bytes_eq v (codes "check")) (Some (check f)) (cond (bytes_eq v (codes "list")) (Some (list f)) None)
+abbrev pub file_asked : List ℕ → List ℕ → Option Wish
+file_asked v f = cond (bytes_eq v (codes "check")) (Some (check f)) (cond (bytes_eq v (codes "list")) (Some (list f)) None)
 
-abbrev pub name-asked : List ℕ → List ℕ → List ℕ → Option Wish
-name-asked v f n = cond (bytes_eq v (codes "get")) (Some (get f n)) (cond (bytes_eq v (codes "add")) (Some (add f n)) None)
+abbrev pub name_asked : List ℕ → List ℕ → List ℕ → Option Wish
+name_asked v f n = cond (bytes_eq v (codes "get")) (Some (get f n)) (cond (bytes_eq v (codes "add")) (Some (add f n)) None)
 
 abbrev pub asked : List (List ℕ) → Option Wish
 asked [] = None
-asked (v ∷ []) = lone-asked v
-asked (v ∷ f ∷ []) = file-asked v f
-asked (v ∷ f ∷ n ∷ []) = name-asked v f n
+asked (v ∷ []) = lone_asked v
+asked (v ∷ f ∷ []) = file_asked v f
+asked (v ∷ f ∷ n ∷ []) = name_asked v f n
 asked (v ∷ f ∷ n ∷ w ∷ ws) = None

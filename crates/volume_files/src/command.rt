@@ -1,7 +1,7 @@
 // What the words of a command line ask for.
 ghost use Rattle.std.specs.Prelude.{◌≡◌, map, string_bytes};
 ghost use Rattle.std.specs.Option.{option_map};
-ghost use Rattle.volume_files.specs.Wishes.{asked, file-asked, lone-asked, name-asked, wish};
+ghost use Rattle.volume_files.specs.Wishes.{asked, file_asked, lone_asked, name_asked, wish};
 
 pub const HELP: &str = "\
 volume check FILE       say whether FILE is a volume
@@ -32,7 +32,7 @@ pub fn read_command(words: &[String]) -> Option<Command<'_>>
 }
 
 fn lone<'a>(verb: &str) -> Option<Command<'a>>
-    ensures { option_map wish result ≡ lone-asked verb.now }
+    ensures { option_map wish result ≡ lone_asked verb.now }
 {
     if verb == "help" {
         Some(Command::Help)
@@ -42,7 +42,7 @@ fn lone<'a>(verb: &str) -> Option<Command<'a>>
 }
 
 fn on_file<'a>(verb: &str, file: &'a str) -> Option<Command<'a>>
-    ensures { option_map wish result ≡ file-asked verb.now file.now }
+    ensures { option_map wish result ≡ file_asked verb.now file.now }
 {
     if verb == "check" {
         return Some(Command::Check(file));
@@ -54,7 +54,7 @@ fn on_file<'a>(verb: &str, file: &'a str) -> Option<Command<'a>>
 }
 
 fn on_name<'a>(verb: &str, file: &'a str, name: &'a str) -> Option<Command<'a>>
-    ensures { option_map wish result ≡ name-asked verb.now file.now name.now }
+    ensures { option_map wish result ≡ name_asked verb.now file.now name.now }
 {
     if verb == "get" {
         return Some(Command::Get(file, name));
