@@ -1,9 +1,9 @@
 -- Reading an acknowledgement's bytes again. Assumes nothing.
-use Rattle.std.proofs.Common.{◌≡◌, ℕ, ◌<◌, ◌≤◌, Bool, true, false, cond, not, ◌&&◌, eqb, List, [], ◌∷◌, ◌++◌, is_some, IfSome, Some, None, codes, decimal, Option, unwrap_or, sym, refl, ap, ◌∙◌, inl, inr, append_assoc, arith, lit<, lit≤}
+use Rattle.std.proofs.Common.{◌≡◌, ℕ, ◌<◌, ◌≤◌, Bool, true, false, cond, not, ◌&&◌, eqb, List, [], ◌∷◌, ◌++◌, is_some, Some, None, codes, decimal, Option, unwrap_or, sym, refl, ap, ◌∙◌, inl, inr, append_assoc, arith, lit<, lit≤}
 use Rattle.std.proofs.lemmas.Fmt.{decimal_is_IsNumeral}
 use Rattle.std.proofs.lemmas.Bool.{and_from, and_parts, cases_Bool, cond-true, cond-false, false≢true, not-true}
 use Rattle.std.proofs.lemmas.Bool.Decides.{nat_tests}
-use Rattle.std.specs.Option.{option_map}
+use Rattle.std.specs.Option.{option_map, option_or}
 use Rattle.std.specs.Str.Parse.{AllDigits, digits_value}
 use Rattle.std.specs.Char.{digit_value}
 use Rattle.std.specs.Fmt.{digits}
@@ -19,7 +19,7 @@ use Rattle.outcome.specs.declared.Status.TheVariants as status
 use Rattle.reply.specs.Visible.{are_visible, is_visible}
 use Rattle.ack.specs.Told.{Ack, KnownId, KnownReceived, KnownRefusal, status_of, Tellable}
 use Rattle.ack.specs.Text.{ack_lines, ack_text, address_lines, ended, error_lines, id_lines, only_if, range_lines, status_line}
-use Rattle.ack.specs.Back.{after, context_numbered, lines_of, onto, or_else, read_lines, Sound, refusal_in, status_in, then_id, value_in}
+use Rattle.ack.specs.Back.{after, context_numbered, lines_of, onto, read_lines, Sound, refusal_in, status_in, then_id, value_in}
 use Rattle.ack.proofs.Long.{text-long}
 
 -- lines without CR and LF
@@ -180,7 +180,7 @@ Misses front (l ∷ ls) = (after front l ≡ None) × Misses front ls
 
 skip : (front : List ℕ) (ls rest : List (List ℕ)) → Misses front ls → value_in front (ls ++ rest) ≡ value_in front rest
 skip front [] rest h = refl
-skip front (l ∷ ls) rest h = ap (λ x. or_else x (value_in front (ls ++ rest))) h.0 ∙ skip front ls rest h.1
+skip front (l ∷ ls) rest h = ap (λ x. option_or x (value_in front (ls ++ rest))) h.0 ∙ skip front ls rest h.1
 
 miss-only : (front l : List ℕ) (b : Bool) → after front l ≡ None → Misses front (only_if b l)
 miss-only front l true h = (h, tt)
@@ -328,7 +328,3 @@ sound a t =
       read = again a t;
       only = λ b h e. sym (again b h) ∙ ap (λ l. read_lines (lines_of l)) e ∙ again a t;
     }
-
-pub all_sound : (a : Option Ack) → IfSome a Tellable → IfSome a Sound
-all_sound None t = tt
-all_sound (Some a) t = sound a t

@@ -1,8 +1,7 @@
 -- Lines one after another. Assumes nothing.
-use Rattle.std.proofs.Common.{◌≡◌, ℕ, Bool, true, false, cond, List, [], ◌∷◌, ◌++◌, length, codes, Option, sym, refl, ap, ◌∙◌, append_assoc, lit≤}
+use Rattle.std.proofs.Common.{◌≡◌, ℕ, Bool, true, false, cond, List, [], ◌∷◌, ◌++◌, length, codes, Option, sym, refl, ap, ◌∙◌, append_assoc}
 use Rattle.ids.specs.declared.SessionId.{SessionId}
 use Rattle.outcome.specs.declared.Refusal.{Refusal}
-use Rattle.reply.specs.Visible.{IsAddress}
 use Rattle.ack.specs.declared.told.Progress.{Progress}
 use Rattle.ack.specs.Told.{received_of, reply_of, status_of, told}
 use Rattle.ack.specs.Text.{ack_lines, ack_text, address_lines, ended, error_lines, found_lines, id_lines, only_if, range_lines, status_line}
@@ -26,9 +25,6 @@ only-protocol false = refl
 only-encoding : (b : Bool) → cond b (codes "Accept-Encoding: identity\r\n") [] ≡ ended (only_if b (codes "Accept-Encoding: identity"))
 only-encoding true = refl
 only-encoding false = refl
-
-pub no_address : IsAddress []
-no_address = record { short = lit≤ tt; seen = refl }
 
 -- the pieces that are written one after another are the whole
 pub text-is : (refusal : Option Refusal) (opened : Bool) (id : Option SessionId) (found : Option Progress) → status_line (status_of refusal) ++ (codes "\r\nBITS-Packet-Type: Ack\r\nContent-Length: 0\r\n" ++ (cond opened (codes "BITS-Protocol: {7df0354d-249b-430f-820d-3d2a9bef4931}\r\n") [] ++ (ended (id_lines id) ++ (cond opened (codes "Accept-Encoding: identity\r\n") [] ++ (ended (found_lines found) ++ (ended (error_lines refusal) ++ codes "\r\n")))))) ≡ ack_text (told refusal opened id found)

@@ -1,7 +1,8 @@
 -- How long an acknowledgement can be. Assumes nothing.
-use Rattle.std.proofs.Common.{◌≡◌, ℕ, ◌+◌, ◌≤◌, Bool, true, false, List, [], ◌∷◌, ◌++◌, length, drop, IfSome, Some, None, codes, decimal, Option, sym, ap, ◌∙◌, subst, arith, lit≤, length-append}
+use Rattle.std.proofs.Common.{◌≡◌, ℕ, ◌+◌, ◌≤◌, Bool, true, false, List, [], ◌∷◌, ◌++◌, length, drop, Some, None, codes, decimal, Option, sym, ap, ◌∙◌, subst, arith, lit≤, length-append}
 use Rattle.page.proofs.Pages.{puts-long, puts_whole}
-use Rattle.page.specs.Page.{Puts}
+use Rattle.page.specs.declared.Writer.{Writer}
+use Rattle.page.specs.Page.{Puts, Wrote}
 use Rattle.std.proofs.lemmas.Fmt.{length-decimal-le}
 use Rattle.std.specs.Fmt.{digits}
 use Rattle.ids.proofs.Texts.{length-hexes, length-id}
@@ -13,7 +14,7 @@ use Rattle.outcome.specs.declared.Status.{Status}
 use Rattle.outcome.specs.declared.Status.TheVariants as status
 use Rattle.reply.specs.Visible.{most}
 use Rattle.ack.specs.Told.{Ack, KnownReceived, status_of, Tellable}
-use Rattle.ack.specs.Text.{ack_lines, ack_text, address_lines, ended, ack_bytes, error_lines, id_lines, least_page, only_if, range_lines, status_line}
+use Rattle.ack.specs.Text.{ack_lines, ack_text, address_lines, ended, error_lines, id_lines, least_page, only_if, range_lines, status_line}
 use Rattle.ack.proofs.Lines.{ended-append}
 
 status-long : (s : Status) → length (status_line s) ≤ 44
@@ -77,9 +78,7 @@ text-long a t =
     (sum_fits _ _ _ _ _ _ _ (length a.reply) (status-long (status_of a.refusal)) (only-long a.opened _) (id-long a.id) (only-long a.opened _) (range-long a.received t.received) (address-long a.reply) (error-long a.refusal) t.reply.short)
 
 -- what is written at the start of a page that is long enough
-pub whole-page : {p q b : List ℕ} {end : ℕ} → Puts p 0 b q end → length b ≤ least_page → least_page ≤ length p → (end ≡ length b) × (q ≡ b ++ drop (length b) p)
-whole-page f h k = (puts-long f (omega arith), puts_whole f (omega arith))
-
-pub bytes-long : (a : Option Ack) → IfSome a Tellable → length (ack_bytes a) ≤ least_page
-bytes-long None h = lit≤ tt
-bytes-long (Some a) h = text-long a h
+pub whole-page : {v w : Writer} {p b : List ℕ} → v.page.now ≡ p → v.at ≡ 0 → Wrote v b w → length b ≤ least_page → least_page ≤ length p → (w.at ≡ length b) × (w.page.now ≡ b ++ drop (length b) p)
+whole-page {v} {w} {p} {b} same start f h k =
+    let g : Puts p 0 b w.page.now w.at = subst (λ q. Puts q 0 b w.page.now w.at) same (subst (λ n. Puts v.page.now n b w.page.now w.at) start f.puts) in
+    (puts-long g (omega arith), puts_whole g (omega arith))

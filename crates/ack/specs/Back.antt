@@ -1,6 +1,6 @@
 -- What an acknowledgement's bytes tell, read again. Assumes nothing.
 use Rattle.std.specs.Prelude.{◌≡◌, ℕ, ◌≤◌, cond, List, [], ◌∷◌, length, take, is_some, Some, None, codes, Option, ◌==◌}
-use Rattle.std.specs.Option.{option_map, unwrap_or}
+use Rattle.std.specs.Option.{option_map, option_or, unwrap_or}
 use Rattle.std.specs.Str.Parse.{digits_value}
 use Rattle.ids.specs.Ids.{id_of}
 use Rattle.ids.specs.declared.SessionId.{SessionId}
@@ -27,14 +27,10 @@ after [] l = Some l
 after (p ∷ ps) [] = None
 after (p ∷ ps) (c ∷ l) = cond (c == p) (after ps l) None
 
-abbrev pub or_else : Option (List ℕ) → Option (List ℕ) → Option (List ℕ)
-or_else None y = y
-or_else (Some x) y = Some x
-
 -- what follows a front in the first line that begins with it
 abbrev pub value_in : List ℕ → List (List ℕ) → Option (List ℕ)
 value_in front [] = None
-value_in front (l ∷ ls) = or_else (after front l) (value_in front ls)
+value_in front (l ∷ ls) = option_or (after front l) (value_in front ls)
 
 abbrev pub status_numbered : ℕ → Status
 status_numbered n = cond (n == 400) status.BadRequest (cond (n == 403) status.Forbidden (cond (n == 416) status.BadRange (cond (n == 500) status.ServerError (cond (n == 501) status.NotImplemented (cond (n == 503) status.Unavailable status.Ok)))))

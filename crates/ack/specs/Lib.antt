@@ -1,3 +1,4 @@
 pub mod Back
+pub mod Lines
 pub mod Text
 pub mod Told

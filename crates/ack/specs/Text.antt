@@ -6,7 +6,7 @@ use Rattle.outcome.specs.Outcomes.{context_of, number_of, phrase_of}
 use Rattle.outcome.specs.declared.Refusal.{Refusal}
 use Rattle.outcome.specs.declared.Status.{Status}
 use Rattle.ack.specs.declared.told.Progress.{Progress}
-use Rattle.ack.specs.Told.{Ack, address_of, received_of, reply_of, status_of}
+use Rattle.ack.specs.Told.{Ack, received_of, reply_of, status_of}
 
 -- each line with the CR LF that ends it
 abbrev pub ended : List (List ℕ) → List ℕ
@@ -31,9 +31,6 @@ range_lines (Some n) = (codes "BITS-Received-Content-Range: " ++ decimal n) ∷ 
 abbrev pub address_lines : List ℕ → List (List ℕ)
 address_lines [] = []
 address_lines (b ∷ bs) = (codes "BITS-Reply-URL: " ++ b ∷ bs) ∷ []
-
-abbrev pub progress_lines : Progress → List (List ℕ)
-progress_lines p = range_lines (Some p.received) ++ address_lines (address_of p.stage)
 
 abbrev pub found_lines : Option Progress → List (List ℕ)
 found_lines found = range_lines (received_of found) ++ address_lines (reply_of found)

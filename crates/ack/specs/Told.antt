@@ -46,6 +46,11 @@ reply_of (Some p) = address_of p.stage
 abbrev pub told : Option Refusal → Bool → Option SessionId → Option Progress → Ack
 told refusal opened id found = record { refusal = refusal; opened = opened; id = id; received = received_of found; reply = reply_of found }
 
+abbrev pub is_receiving : Stage → Bool
+is_receiving Receiving = true
+is_receiving AtApprover = false
+is_receiving (Ready address) = false
+
 -- a session that is at the approver after the call
 abbrev pub is_away : Stage → Bool
 is_away Receiving = false

@@ -53,12 +53,16 @@ pub record Gone {S : Type 0} (meaning : S → Meaning) (made : S → Change → 
   pub within : used ≤ length input
   pub fits : put ≤ length out
 
-module _ {S : Type 0} (meaning : S → Meaning) (made : S → Change → S → Type 0) (input out : List ℕ) (k : Intake S) where
-  pub at_first : Gone meaning made input out k 0 0 [] out k
-  at_first = record { count = 0; told = []; turns = (refl, refl, refl, refl); put_is = refl; bytes = refl; settings = refl; within = omega arith; fits = omega arith }
+began : {S : Type 0} (meaning : S → Meaning) (made : S → Change → S → Type 0) (input out : List ℕ) (k : Intake S) (n used : ℕ) (told serials : List ℕ) (l : Intake S)
+    → Turns meaning made (length out) input n k used told serials l → ((told ≡ []) × (serials ≡ []) × (used ≡ 0)) ⊎ (0 < used)
+began meaning made input out k zero used told serials l (a, b, c, d) = inl (b, c, a)
+began meaning made input out k (suc n) used told serials l (at, before, m, so, last) =
+    let t = last.turn in
+    inr (omega (arith, last.used_is, t.used_is, uses _ _ t.more t.page))
 
+module _ {S : Type 0} {meaning : S → Meaning} {made : S → Change → S → Type 0} {input out : List ℕ} {k : Intake S} where
   -- one message more
-  pub step : (used put : ℕ) (cur : List ℕ) (l m : Intake S) (own size : ℕ) (ack serials page : List ℕ)
+  step : {used put : ℕ} {cur : List ℕ} {l m : Intake S} {own size : ℕ} {ack serials page : List ℕ}
       → Gone meaning made input out k used put [] cur l
       → Turn meaning made (length (mid_of put (length cur - put) cur)) (mid_of used (length input - used) input) l own ack serials m
       → own ≤ length (mid_of used (length input - used) input)
@@ -66,7 +70,7 @@ module _ {S : Type 0} (meaning : S → Meaning) (made : S → Change → S → T
       → page ≡ ack ++ drop (length ack) (mid_of put (length cur - put) cur)
       → length page ≡ length (mid_of put (length cur - put) cur)
       → Gone meaning made input out k (used + own) (put + size) serials (put_mid put (length cur - put) cur page) m
-  step used put cur l m own size ack serials page so turn own_in sized page-is kept =
+  step {used} {put} {cur} {l} {m} {own} {size} {ack} {serials} {page} so turn own_in sized page-is kept =
       let told = so.told in
       let whole : length cur ≡ length out = ap length so.bytes ∙ length-append told (drop (length told) out) ∙ ap (λ n. length told + n) (length-drop (length told) out) ∙ (let f = so.fits in let e = so.put_is in omega arith) in
       let room : length (mid_of put (length cur - put) cur) ≡ length out - length told = ap length (take_rest cur put) ∙ length-drop put cur ∙ (λ i. whole i - so.put_is i) in
@@ -85,7 +89,7 @@ module _ {S : Type 0} (meaning : S → Meaning) (made : S → Change → S → T
       }
 
   -- the same, in the words of a message's contract
-  pub next : (used put : ℕ) (cur : List ℕ) (l m : Intake S) (own size : ℕ) (serials page : List ℕ)
+  pub next : {used put : ℕ} {cur : List ℕ} {l : Intake S} {own size : ℕ} {serials page : List ℕ} (m : Intake S)
       → Gone meaning made input out k used put [] cur l
       → used < length input
       → 1024 ≤ length cur - put
@@ -100,25 +104,19 @@ module _ {S : Type 0} (meaning : S → Meaning) (made : S → Change → S → T
       ++ drop (length (ack_bytes (message_ack l.settings (world_of meaning l) (length (mid_of put (length cur - put) cur)) (mid_of used (length input - used) input) (world_of meaning m)))) (mid_of put (length cur - put) cur)
       → length page ≡ length (mid_of put (length cur - put) cur)
       → Gone meaning made input out k (used + own) (put + size) serials (put_mid put (length cur - put) cur page) m × (0 < own)
-  next used put cur l m own size serials page so left long done account kept own_is own_in notices size_is page-is same =
+  next {used} {put} {cur} m so left long done account kept own_is own_in notices size_is page-is same =
       let some : 0 < length (mid_of used (length input - used) input) = omega (arith, left, ap length (take_rest input used), length-drop used input) in
       let room : 1024 ≤ length (mid_of put (length cur - put) cur) = omega (arith, long, ap length (take_rest cur put), length-drop put cur) in (
-        step used put cur l m own size _ serials page so (record { more = some; page = room; done = done; account = account; settings = kept; used_is = own_is; told_is = refl; notices = notices }) own_in size_is page-is same,
+        step so (record { more = some; page = room; done = done; account = account; settings = kept; used_is = own_is; told_is = refl; notices = notices }) own_in size_is page-is same,
         omega (arith, own_is, uses _ _ some room),
       )
 
-  began : (n used : ℕ) (told serials : List ℕ) (l : Intake S) → Turns meaning made (length out) input n k used told serials l → ((told ≡ []) × (serials ≡ []) × (used ≡ 0)) ⊎ (0 < used)
-  began zero used told serials l (a, b, c, d) = inl (b, c, a)
-  began (suc n) used told serials l (at, before, m, so, next) =
-      let t = next.turn in
-      inr (omega (arith, next.used_is, t.used_is, uses _ _ t.more t.page))
-
-  module _ (used put : ℕ) (serials after : List ℕ) (l : Intake S) (so : Gone meaning made input out k used put serials after l) (why : Stop (length input) (length out) used put serials) where
+  module _ {used put : ℕ} {serials after : List ℕ} {l : Intake S} (so : Gone meaning made input out k used put serials after l) (why : Stop (length input) (length out) used put serials) where
     pub served : Served meaning made input out k used put serials after l
     served = record { count = so.count; told = so.told; turns = so.turns; stops = why; put_is = so.put_is; bytes = so.bytes; settings = so.settings }
 
     pub progressed : 0 < length input → 1024 ≤ length out → 0 < used
-    progressed some page = from (began so.count used so.told serials l so.turns) why
+    progressed some page = from (began meaning made input out k so.count used so.told serials l so.turns) why
       where
         from : ((so.told ≡ []) × (serials ≡ []) × (used ≡ 0)) ⊎ (0 < used) → Stop (length input) (length out) used put serials → 0 < used
         from (inr h) stop = h

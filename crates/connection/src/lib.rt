@@ -27,8 +27,9 @@ pub fn serve<S: Store>(intake: &mut Intake<S>, input: &[u8], out: &mut [u8]) -> 
     ensures put { result.length ≤ length out.old }
     ensures progress { 0 < length input.now → 1024 ≤ length out.old → 0 < result.used }
 {
-    let mut used: usize = 0;
-    let mut length: usize = 0;
+    // the caller is told both counts, so nothing is gained by slices that shrink
+    let mut used = 0;
+    let mut length = 0;
     while used < input.len() && out.len() - length >= LEAST_PAGE {
         let Reply {
             outcome: _,

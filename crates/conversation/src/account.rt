@@ -1,9 +1,9 @@
 // A story run and told: for each call a line, and below it the acknowledgement.
-use crate::desk::settle;
-use crate::steps::{PAGE, Step, calls_of, texts_of};
-use crate::words::{layer_name, part};
+use crate::closing::close;
+use crate::steps::{Step, calls_of, texts_of};
+use ack::LEAST_PAGE;
 use anyhow::anyhow;
-use outcome::Outcome;
+use outcome::{Outcome, Report};
 use runs::{Halted, Line, Ran, run};
 use session::Settings;
 use std::fmt::Display;
@@ -12,12 +12,13 @@ use store::Store;
 
 // What was done, and the number, layer and place that it came to.
 fn print_outcome(rt: &impl Print, what: &impl Display, outcome: Outcome) -> anyhow::Result<()> {
-    let report = outcome.report();
-    let layer = layer_name(report.layer);
-    print!(rt;
-        "{what}: number {}, layer {layer}, place {}",
-        report.number, report.place
-    )?;
+    let Report {
+        number,
+        layer,
+        place,
+        ..
+    } = outcome.report();
+    print!(rt; "{what}: number {number}, layer {layer}, place {place}")?;
     Ok(())
 }
 
@@ -44,71 +45,57 @@ fn print_ack(rt: &impl Print, ack: &[u8]) -> anyhow::Result<()> {
 }
 
 // A call that has no outcome.
-fn print_silent(
-    rt: &impl Print,
-    step: &Step<'_>,
-    what: &str,
-    count: usize,
-) -> anyhow::Result<usize> {
+fn print_silent(rt: &impl Print, step: &Step<'_>, what: &str, count: usize) -> anyhow::Result<()> {
     println!(rt; "{step}: {what}: {count}\n")?;
-    Ok(0)
+    Ok(())
 }
 
-// What follows a call's first line; the bytes of its acknowledgement.
-fn print_told(rt: &impl Print, notice: Option<u64>, ack: &[u8]) -> anyhow::Result<usize> {
+// What follows a call's first line.
+fn print_told(rt: &impl Print, notice: Option<u64>, ack: &[u8]) -> anyhow::Result<()> {
     if let Some(serial) = notice {
         println!(rt; "    a notice for session {serial} lies on the desk")?;
     }
-    print_ack(rt, ack)?;
-    Ok(ack.len())
+    print_ack(rt, ack)
 }
 
-// One call, whose acknowledgement stands at `at` of the pages; the bytes of that.
-fn print_call(
-    rt: &impl Print,
-    step: &Step<'_>,
-    line: Line,
-    pages: &[u8],
-    at: usize,
-) -> anyhow::Result<usize> {
-    match line {
+fn print_call(rt: &impl Print, step: &Step<'_>, line: &Line, ack: &[u8]) -> anyhow::Result<()> {
+    match *line {
         Line::Message {
             outcome,
             used,
-            length,
             notice,
             ..
         } => {
             print_outcome(rt, step, outcome)?;
             println!(rt; ", {used} bytes used")?;
-            print_told(rt, notice, part(pages, at, length))
+            print_told(rt, notice, ack)
         }
         Line::Answer {
             serial,
             outcome,
-            length,
             notice,
             ..
         } => {
             print_outcome(rt, step, outcome)?;
             println!(rt; ", 0 bytes used\n    on the notice for session {serial}")?;
-            print_told(rt, notice, part(pages, at, length))
+            print_told(rt, notice, ack)
         }
         Line::Tick { ended } => print_silent(rt, step, "sessions ended", ended),
         Line::Skipped => print_silent(rt, step, "not given, notices on the desk", 0),
     }
 }
 
+// The calls with their acknowledgements, which stand one behind the other at the front of the pages.
 fn print_calls(
     rt: &impl Print,
     steps: &[Step<'_>],
     lines: &[Line],
     pages: &[u8],
 ) -> anyhow::Result<()> {
-    let mut at: usize = 0;
-    for (step, line) in steps.iter().zip(lines.iter()) {
-        let length = print_call(rt, step, *line, pages, at)?;
-        at = at.saturating_add(length);
+    let mut left = pages;
+    for (step, line) in steps.iter().zip(lines) {
+        let ack = left.split_off(..line.length()).unwrap_or(&[]);
+        print_call(rt, step, line, ack)?;
     }
     Ok(())
 }
@@ -123,7 +110,7 @@ pub(crate) fn tell<S: Store + Drop>(
     let heap = rt.alloc();
     let texts = texts_of(heap, steps)?;
     let calls = calls_of(heap, steps, texts.as_slice())?;
-    let mut pages = vec![in heap; 0u8; steps.len().saturating_mul(PAGE)]?;
+    let mut pages = vec![in heap; 0u8; steps.len().saturating_mul(LEAST_PAGE)]?;
     match run(heap, store, settings, calls.as_slice(), &mut pages) {
         Ok(
             Ran {
@@ -133,7 +120,7 @@ pub(crate) fn tell<S: Store + Drop>(
             },
         ) => {
             let left = desk.len();
-            let store = settle(intake, desk);
+            let store = close(intake, desk);
             print_calls(rt, steps, lines.as_slice(), pages.as_slice())?;
             if left > 0 {
                 println!(rt; "Notices left on the desk, each answered with a no: {left}\n")?;

@@ -2,12 +2,11 @@
 #![tactic(auto)]
 
 mod account;
-mod desk;
+mod closing;
 mod refusals;
 mod requests;
 mod steps;
 mod stories;
-mod words;
 
 fn main(rt: HostRuntime) -> anyhow::Result<()> {
     stories::print(&rt)

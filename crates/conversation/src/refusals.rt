@@ -1,10 +1,9 @@
 // Every number from 1 to 23 that can come.
 use crate::account::{print_making, tell};
-use crate::desk::NO_REASON;
+use crate::closing::NO_REASON;
 use crate::requests::{Request, Upload};
 use crate::steps::Step;
 use crate::stories::USUAL;
-use anyhow::anyhow;
 use page_store::PageStore;
 use session::Settings;
 use volume_store::VolumeStore;
@@ -102,13 +101,9 @@ fn over(
 ) -> anyhow::Result<()> {
     println!(rt; "\n== {title}\n")?;
     let region = vec![in rt.alloc(); 0u8; room.saturating_add(1024)]?;
-    match VolumeStore::new(region, 64, 0) {
-        Ok(store) => {
-            let _store = tell(rt, store, settings, steps)?;
-            Ok(())
-        }
-        Err(_) => Err(anyhow!("no volume store")),
-    }
+    let store = VolumeStore::new(region, 64, 0)?;
+    tell(rt, store, settings, steps)?;
+    Ok(())
 }
 
 fn print_other_settings(rt: &HostRuntime) -> anyhow::Result<()> {
@@ -144,7 +139,7 @@ fn print_broken(rt: &HostRuntime) -> anyhow::Result<()> {
     over(rt, "Broken settings: 23", 200, none, &ONE)?;
     match PageStore::new(vec![in rt.alloc(); 0u8; 4095]?) {
         Ok(_) => println!(rt; "a page store")?,
-        Err(bad) => print_making(rt, &"A page store over 4095 bytes", bad.outcome())?,
+        Err(bad) => print_making(rt, "A page store over 4095 bytes", bad.outcome())?,
     }
     println!(rt;
         "Number 22 does not come: it is for a store that refuses what it said it would take, and these keep their word."

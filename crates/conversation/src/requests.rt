@@ -1,4 +1,5 @@
-// What a laptop sends, and the bytes of it.
+// What a laptop sends, and what an account says of it.
+use laptop::{Named, cancel, close, create, fragment, ping};
 use std::alloc::{AllocError, Global};
 use std::fmt;
 
@@ -12,11 +13,27 @@ pub struct Upload<'a> {
     pub serial: u64,
 }
 
+impl<'a> Upload<'a> {
+    // The text of its session's id.
+    fn id(self, heap: Global) -> Result<String, AllocError> {
+        let serial = self.serial;
+        format!(in heap; "{{00000000-0000-{SITE:04x}-0000-{serial:012x}}}")
+    }
+
+    fn named(self, id: &'a str) -> Named<'a> {
+        Named {
+            path: self.path,
+            id,
+        }
+    }
+}
+
+// A value and no closure: each request is printed as well as sent.
 #[derive(Clone, Copy)]
 pub enum Request<'a> {
     Create(Upload<'a>),
     // the range, the bytes announced, and the body, which may be shorter
-    Fragment(Upload<'a>, &'a str, u32, &'a str),
+    Fragment(Upload<'a>, &'a str, u64, &'a str),
     Close(Upload<'a>),
     Cancel(Upload<'a>),
     Ping,
@@ -43,49 +60,25 @@ impl fmt::Display for Request<'_> {
     }
 }
 
-// A message without a body that names its session.
-fn short_text(heap: Global, kind: &str, upload: Upload<'_>) -> Result<String, AllocError> {
-    let path = upload.path;
-    let serial = upload.serial;
-    format!(in heap;
-        "BITS_POST {path} HTTP/1.1\r\nBITS-Packet-Type: {kind}\r\nBITS-Session-Id: {{00000000-0000-{SITE:04x}-0000-{serial:012x}}}\r\nContent-Length: 0\r\n\r\n"
-    )
-}
-
-fn create_text(heap: Global, path: &str) -> Result<String, AllocError> {
-    format!(in heap;
-        "BITS_POST {path} HTTP/1.1\r\nBITS-Packet-Type: CREATE-SESSION\r\nBITS-Supported-Protocols: {{7df0354d-249b-430f-820d-3d2a9bef4931}}\r\nContent-Length: 0\r\n\r\n"
-    )
-}
-
-fn fragment_text(
-    heap: Global,
-    upload: Upload<'_>,
-    range: &str,
-    announced: u32,
-    body: &str,
-) -> Result<String, AllocError> {
-    let path = upload.path;
-    let serial = upload.serial;
-    format!(in heap;
-        "BITS_POST {path} HTTP/1.1\r\nBITS-Packet-Type: FRAGMENT\r\nBITS-Session-Id: {{00000000-0000-{SITE:04x}-0000-{serial:012x}}}\r\nContent-Range: bytes {range}\r\nContent-Length: {announced}\r\n\r\n{body}"
-    )
-}
-
 impl Request<'_> {
     // The bytes that come over the line.
     pub(crate) fn text(self, heap: Global) -> Result<String, AllocError> {
         match self {
-            Request::Create(upload) => create_text(heap, upload.path),
-            Request::Fragment(upload, range, announced, body) => fragment_text(
-                heap, upload, range, announced, body,
-            ),
-            Request::Close(upload) => short_text(heap, "CLOSE-SESSION", upload),
-            Request::Cancel(upload) => short_text(heap, "CANCEL-SESSION", upload),
-            Request::Ping => String::from_str(
-                heap,
-                "BITS_POST / HTTP/1.1\r\nBITS-Packet-Type: PING\r\nContent-Length: 0\r\n\r\n",
-            ),
+            Request::Create(upload) => create(heap, upload.path),
+            Request::Fragment(upload, range, announced, body) => {
+                let id = upload.id(heap)?;
+                let announced = format!(in heap; "{announced}")?;
+                fragment(
+                    heap,
+                    upload.named(id.as_str()),
+                    range,
+                    announced.as_str(),
+                    body,
+                )
+            }
+            Request::Close(upload) => close(heap, upload.named(upload.id(heap)?.as_str())),
+            Request::Cancel(upload) => cancel(heap, upload.named(upload.id(heap)?.as_str())),
+            Request::Ping => ping(heap, "/", ""),
             Request::Text(_, text) => String::from_str(heap, text),
         }
     }

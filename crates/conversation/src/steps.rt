@@ -1,13 +1,12 @@
 // The steps of a story, and the calls that they come to.
 use crate::requests::Request;
+use ack::LEAST_PAGE;
 use intake_core::Verdict;
 use runs::Call;
 use std::alloc::{AllocError, Global};
 use std::fmt;
 
-// The bytes of a page.
-pub const PAGE: usize = 1024;
-
+// A value and no closure: each step is printed as well as made.
 #[derive(Clone, Copy)]
 pub enum Step<'a> {
     Send(Request<'a>),
@@ -31,45 +30,44 @@ impl fmt::Display for Step<'_> {
     }
 }
 
-// What each step hands in: a message's text, a yes's reply address, or nothing.
-pub(crate) fn texts_of(heap: Global, steps: &[Step<'_>]) -> Result<Vec<String>, AllocError> {
-    let mut texts = Vec::new(heap);
-    for step in steps {
-        let text = match *step {
-            Step::Send(request) => request.text(heap)?,
-            Step::Cramped(request) => request.text(heap)?,
-            Step::Yes(address) => String::from_str(heap, address)?,
-            Step::No(_) => String::new(heap),
-            Step::Tick(_) => String::new(heap),
-        };
-        texts.push(text)?;
+impl Step<'_> {
+    // What the step hands in: a message's text, a yes's reply address, or nothing.
+    fn text(&self, heap: Global) -> Result<String, AllocError> {
+        match *self {
+            Step::Send(request) | Step::Cramped(request) => request.text(heap),
+            Step::Yes(address) => String::from_str(heap, address),
+            Step::No(_) | Step::Tick(_) => Ok(String::new(heap)),
+        }
     }
-    Ok(texts)
+
+    // The call of the step that hands this text in.
+    fn call<'a>(&self, text: &'a [u8]) -> Call<'a> {
+        match *self {
+            Step::Send(_) => Call::Message {
+                page: LEAST_PAGE,
+                input: text,
+            },
+            Step::Cramped(_) => Call::Message {
+                page: LEAST_PAGE - 1,
+                input: text,
+            },
+            Step::Yes(_) => Call::Answer {
+                page: LEAST_PAGE,
+                at: 0,
+                verdict: Verdict::Yes(text),
+            },
+            Step::No(code) => Call::Answer {
+                page: LEAST_PAGE,
+                at: 0,
+                verdict: Verdict::No(code),
+            },
+            Step::Tick(reading) => Call::Tick { reading },
+        }
+    }
 }
 
-// The call of a step that hands this text in.
-fn call_of<'a>(step: Step<'_>, text: &'a [u8]) -> Call<'a> {
-    match step {
-        Step::Send(_) => Call::Message {
-            page: PAGE,
-            input: text,
-        },
-        Step::Cramped(_) => Call::Message {
-            page: PAGE - 1,
-            input: text,
-        },
-        Step::Yes(_) => Call::Answer {
-            page: PAGE,
-            at: 0,
-            verdict: Verdict::Yes(text),
-        },
-        Step::No(code) => Call::Answer {
-            page: PAGE,
-            at: 0,
-            verdict: Verdict::No(code),
-        },
-        Step::Tick(reading) => Call::Tick { reading },
-    }
+pub(crate) fn texts_of(heap: Global, steps: &[Step<'_>]) -> Result<Vec<String>, AllocError> {
+    steps.iter().map(|step| step.text(heap)).try_collect(heap)
 }
 
 pub(crate) fn calls_of<'a>(
@@ -77,9 +75,9 @@ pub(crate) fn calls_of<'a>(
     steps: &[Step<'_>],
     texts: &'a [String],
 ) -> Result<Vec<Call<'a>>, AllocError> {
-    let mut calls = Vec::new(heap);
-    for (step, text) in steps.iter().zip(texts.iter()) {
-        calls.push(call_of(*step, text.as_bytes()))?;
-    }
-    Ok(calls)
+    steps
+        .iter()
+        .zip(texts)
+        .map(|(step, text)| step.call(text.as_bytes()))
+        .collect(heap)
 }

@@ -3,7 +3,6 @@ use crate::account::tell;
 use crate::refusals;
 use crate::requests::{Request, SITE, Upload};
 use crate::steps::Step;
-use crate::words::part;
 use anyhow::anyhow;
 use page_store::PageStore;
 use session::Settings;
@@ -47,9 +46,7 @@ fn print_volume(rt: &HostRuntime, bytes: &[u8]) -> anyhow::Result<()> {
         "The volume has {} bytes. From the last one back:",
         bytes.len()
     )?;
-    let Ok(all) = list(rt.alloc(), bytes) else {
-        return Err(anyhow!("the volume is not listed"));
-    };
+    let all = list(rt.alloc(), bytes).map_err(|_| anyhow!("the volume is not listed"))?;
     for found in &all {
         let bundle = found.bundle;
         print!(rt;
@@ -69,13 +66,9 @@ fn over_volume(rt: &HostRuntime) -> anyhow::Result<()> {
     println!(rt; "== Sent, resumed, approved and closed, over a volume that has one bundle\n")?;
     let mut region = vec![in rt.alloc(); 0u8; 1200]?;
     region[1024..1043].copy_from_slice(&volume::example());
-    match VolumeStore::new(region, 64, 19) {
-        Ok(store) => {
-            let store = tell(rt, store, USUAL, &SENT)?;
-            print_volume(rt, store.volume())
-        }
-        Err(_) => Err(anyhow!("no volume store")),
-    }
+    let store = VolumeStore::new(region, 64, 19)?;
+    let store = tell(rt, store, USUAL, &SENT)?;
+    print_volume(rt, store.volume())
 }
 
 // What stands under a name, in parts of 16 bytes.
@@ -85,27 +78,23 @@ fn print_name<S: Store>(rt: &HostRuntime, store: &S, name: &str) -> anyhow::Resu
         return Ok(());
     };
     println!(rt; "{length} bytes stand under {name}. In parts of 16:")?;
-    for i in 0..length.div_ceil(16) {
+    for at in (0..length).step_by(16) {
         let mut page = [0; 16];
-        let n = store
-            .copy(name.as_bytes(), i.saturating_mul(16), &mut page)
-            .unwrap_or(0);
+        let n = store.copy(name.as_bytes(), at, &mut page).unwrap_or(0);
         print!(rt; "  {n} bytes: ")?;
-        rt.stdout().write_all(part(&page, 0, n))?;
+        rt.stdout().write_all(&page[..n])?;
         println!(rt)?;
     }
     Ok(())
 }
 
-fn over_pages(rt: &HostRuntime) -> anyhow::Result<()> {
-    println!(rt; "\n== The same over pages\n")?;
-    match PageStore::new(vec![in rt.alloc(); 0u8; 8192]?) {
-        Ok(store) => {
-            let store = tell(rt, store, USUAL, &SENT)?;
-            print_name(rt, &store, SCRIPT.path)
-        }
-        Err(_) => Err(anyhow!("no page store")),
-    }
+// A story over two pages, and what then stands under a name.
+fn over_pages(rt: &HostRuntime, title: &str, steps: &[Step<'_>], name: &str) -> anyhow::Result<()> {
+    println!(rt; "\n== {title}\n")?;
+    let region = vec![in rt.alloc(); 0u8; 8192]?;
+    let store = PageStore::new(region)?;
+    let store = tell(rt, store, USUAL, steps)?;
+    print_name(rt, &store, name)
 }
 
 const LEFT: Upload<'static> = Upload {
@@ -141,20 +130,14 @@ static ENDED: [Step<'static>; 14] = [
     Step::Send(Request::Fragment(ANEW, "0-9/10", 10, "first half")),
 ];
 
-fn ends(rt: &HostRuntime) -> anyhow::Result<()> {
-    println!(rt; "\n== A cancelled session, and one that is left alone for 14 days\n")?;
-    match PageStore::new(vec![in rt.alloc(); 0u8; 8192]?) {
-        Ok(store) => {
-            let store = tell(rt, store, USUAL, &ENDED)?;
-            print_name(rt, &store, STOPPED.path)
-        }
-        Err(_) => Err(anyhow!("no page store")),
-    }
-}
-
 pub(crate) fn print(rt: &HostRuntime) -> anyhow::Result<()> {
     over_volume(rt)?;
-    over_pages(rt)?;
+    over_pages(rt, "The same over pages", &SENT, SCRIPT.path)?;
     refusals::print(rt)?;
-    ends(rt)
+    over_pages(
+        rt,
+        "A cancelled session, and one that is left alone for 14 days",
+        &ENDED,
+        STOPPED.path,
+    )
 }

@@ -1,80 +1,30 @@
 // Says what a request on standard input reads as, or why it is refused and where.
 #![tactic(auto)]
 
-ghost use Rattle.std.specs.Prelude.{◌≡◌, ◌≤◌, length};
-ghost use Rattle.explain.specs.Shown.{printable};
-
 use ids::SessionId;
 use packet::{Action, Fault, Packet, read_packet};
+use shown::Shown;
+use std::io;
 use std::io::Read;
-use std::{fmt, io};
 
 // The most bytes of a bad line that are shown.
 const MOST_SHOWN: usize = 200;
 
-fn is_printable(b: u8) -> bool
-    ensures { result ≡ printable b }
-{
-    b >= 0x20 && b <= 0x7e
-}
-
-// Bytes as they may go to a terminal: any that is not printable as `\xNN`.
-#[derive(Clone, Copy)]
-struct Shown<'a>(&'a [u8]);
-
-impl fmt::Display for Shown<'_> {
-    fn fmt<W: fmt::Write>(&self, f: &mut fmt::Formatter<W>) -> fmt::Result {
-        for b in self.0 {
-            let byte = *b;
-            if is_printable(byte) {
-                write!(f, "{}", byte as char)?;
-            } else {
-                write!(f, "\\x{byte:02x}")?;
-            }
-        }
-        Ok(())
-    }
-}
-
-// Where the line that begins at `at` ends, or what is shown of it.
-fn line_end(input: &[u8], at: usize) -> usize
-    ensures { result ≤ length input.now }
-{
-    let most = input.len().min(at.saturating_add(MOST_SHOWN));
-    for i in at..most {
-        if input[i..].starts_with(b"\r\n") {
-            return i;
-        }
-    }
-    most
-}
-
-fn shown_line(input: &[u8], at: usize) -> Shown<'_> {
-    let end = line_end(input, at);
-    if at < end {
-        Shown(&input[at..end])
-    } else {
-        Shown(&input[0..0])
-    }
-}
-
-fn in_words(fault: Fault) -> &'static str {
-    match fault {
-        Fault::Text(head::Fault::Unfinished) => "the head has no empty line yet",
-        Fault::Text(head::Fault::Malformed(_)) =>
-            "a line of the head is bad, or the head does not end within 8192 bytes",
-        Fault::Text(head::Fault::Repeated(_)) => "a known field stands again",
-        Fault::Field(0) => "a field that the request needs is missing",
-        Fault::Field(_) => "a field that the request needs has a bad value",
-    }
+// The line that begins at `at`, or what is shown of it.
+fn shown_line(input: &[u8], at: usize) -> Shown<'_, false> {
+    let rest = input.get(at..).unwrap_or(&[]);
+    let length = rest
+        .windows(2)
+        .position(|w| w == b"\r\n".as_slice())
+        .unwrap_or(rest.len());
+    Shown(&rest[..length.min(MOST_SHOWN)])
 }
 
 fn print_refusal(rt: &impl Print, input: &[u8], fault: Fault) -> io::Result<()> {
     let place = fault.place();
     println!(rt;
-        "refused, number {}, offset {place}: {}",
-        fault.number(),
-        in_words(fault)
+        "refused, number {}, offset {place}: {fault}",
+        fault.number()
     )?;
     println!(rt; "line at {place}: {}", shown_line(input, place))
 }
@@ -112,7 +62,7 @@ fn print_action(rt: &impl Print, action: Action) -> io::Result<()> {
 }
 
 fn print_packet(rt: &impl Print, packet: Packet) -> io::Result<()> {
-    println!(rt; "path: {}", Shown(packet.path))?;
+    println!(rt; "path: {}", Shown::<false>(packet.path))?;
     print_action(rt, packet.action)?;
     println!(rt; "head: {} bytes", packet.head_size)?;
     println!(rt;

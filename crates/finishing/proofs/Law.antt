@@ -1,5 +1,6 @@
 -- Along a finishing list, and its close.
 use Rattle.std.proofs.Common.{◌≡◌, ℕ, ◌+◌, ◌<◌, ◌≤◌, max, Bool, true, false, List, ◌∷◌, length, get_or, Some, sym, refl, ap, ◌∙◌, ⊎_elim, arith}
+use Rattle.std.specs.Option.{option_or}
 use Rattle.std.proofs.lemmas.List.{get_or_append_left}
 use Rattle.std.proofs.lemmas.Bool.{cases_Bool, cases_lt}
 use Rattle.store.specs.Meaning.{Meaning}
@@ -9,7 +10,7 @@ use Rattle.session.specs.Plans.{fresh}
 use Rattle.session.specs.Steps.{Word, yes, word_phase}
 use Rattle.session.specs.declared.records.Settings.{Settings}
 use Rattle.finishing.specs.Runs.{Call, message, answer, Stepped}
-use Rattle.finishing.specs.Finishing.{Fits, Sends, done, fragment, verdict, approved, or_else, first_carried}
+use Rattle.finishing.specs.Finishing.{Fits, Sends, done, fragment, verdict, approved, first_carried}
 use Rattle.finishing.proofs.State.{Holds, is_whole}
 use Rattle.finishing.proofs.Fragments.{after, reach_now, away-whole, away-same, holds-away, took, holds-taken}
 use Rattle.finishing.proofs.Verdicts.{told, untold, holds-verdict, holds-untold, not_taken, holds-approved}
@@ -57,11 +58,11 @@ module _ (sets : Settings) (i : ℕ) (a : Live) (t : ℕ) (w u : World) (ended a
             (λ c.
             let b : p < max x.received (f.range.first + length f.request.body) = omega arith in
             let d : f.range.first ≤ p = omega arith in
-            ap (λ v. or_else v (first_carried cs p)) (reaches input f.request f.id f.range f.at f.read f.action p d c)
+            ap (λ v. option_or v (first_carried cs p)) (reaches input f.request f.id f.range f.at f.read f.action p d c)
             ∙ ap Some (sym (k.begins p b ∙ ap (λ v. get_or v p 0) grown ∙ fresh_at (w.store.held i) f.request.body x.received f.range.first p kept low l)))
             (λ c.
             let b : max x.received (f.range.first + length f.request.body) ≤ p = omega arith in
-            ap (λ v. or_else v (first_carried cs p)) (misses input f.request f.id f.range f.at f.read f.action p c)
+            ap (λ v. option_or v (first_carried cs p)) (misses input f.request f.id f.range f.at f.read f.action p c)
             ∙ k.follows p b m)
             (cases_lt p (f.range.first + length f.request.body));
       }

@@ -1,5 +1,6 @@
 -- The lists of calls that finish a session, and what they come to.
 use Rattle.std.specs.Prelude.{◌≡◌, ℕ, ◌+◌, ◌-◌, ◌<◌, ◌≤◌, Bool, true, false, cond, ◌&&◌, List, [], ◌∷◌, ◌++◌, length, Some, None, Ok, Err, Option, Result, ◌==◌, nat_le, nat_lt, slice_index}
+use Rattle.std.specs.Option.{option_or}
 use Rattle.ids.specs.declared.SessionId.{SessionId}
 use Rattle.outcome.specs.declared.Outcome.TheVariants.{Done}
 use Rattle.packet.specs.Packets.{Request, packet_of}
@@ -116,14 +117,10 @@ abbrev pub carried_by : Result Request Fault → ℕ → Option ℕ
 carried_by (Ok q) p = carried_to q.action q.body p
 carried_by (Err e) p = None
 
-abbrev pub or_else : Option ℕ → Option ℕ → Option ℕ
-or_else (Some b) o = Some b
-or_else None o = o
-
 -- the first byte that the calls carry to place p
 abbrev pub first_carried : List Call → ℕ → Option ℕ
 first_carried [] p = None
-first_carried (message page input ∷ cs) p = or_else (carried_by (packet_of input) p) (first_carried cs p)
+first_carried (message page input ∷ cs) p = option_or (carried_by (packet_of input) p) (first_carried cs p)
 first_carried (answer page serial word ∷ cs) p = first_carried cs p
 first_carried (tick reading ∷ cs) p = first_carried cs p
 

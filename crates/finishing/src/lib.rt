@@ -8,7 +8,7 @@ ghost use Rattle.finishing.specs.Finishing.{FinishableUnder, GoodSince, UploadsO
 // Each finishing list ends in a close that is taken and stores the whole bundle; what the reached worlds keep is what
 // this asks for; such a list is a run of calls; and one whole fragment and a close, with a yes between where the approver
 // is told, are one, which can be run.
-pub fn finishing_stands() -> u8
+pub fn finishing_stands()
     ensures finishable { (sets : Settings) → sets.uploads ≡ true → FinishableUnder sets }
     ensures good { GoodSince }
     ensures uploads { UploadsOn }
@@ -16,6 +16,4 @@ pub fn finishing_stands() -> u8
     ensures unapproved { OneFragment }
     ensures approved { OneFragmentApproved }
     ensures possible { CanRun }
-{
-    0
-}
+{}

@@ -2,10 +2,10 @@
 use Rattle.std.proofs.Common.{◌≡◌, ℕ, zero, suc, ◌+◌, ◌<◌, ◌≤◌, Bool, true, false, cond, ◌&&◌, eqb, leb, List, [], ◌∷◌, ◌++◌, length, get_or, take, drop, Some, None, Ok, Err, Option, Result, sym, refl, ap, ◌∙◌, subst, inl, inr, append_assoc, arith}
 use Rattle.std.proofs.lemmas.List.{take-append-drop, take_at, drop_at, get_or_at, get_or_past, drop_more, length_push, length-take-le}
 use Rattle.std.proofs.lemmas.Bool.{cases_lt, eqb-true, eq-eqb, leb-true, le-leb, and_parts, and_from, cond-true}
-use Rattle.std.specs.List.{prefix_len}
-use Rattle.text.specs.Bytes.{token_byte, value_byte, every}
+use Rattle.std.specs.List.{prefix_len, list_all}
+use Rattle.text.specs.Bytes.{token_byte, value_byte}
 use Rattle.text.specs.Words.{trimmed}
-use Rattle.text.proofs.Runs.{leading-append, leading-every, trim-is, trim-cut}
+use Rattle.text.proofs.Runs.{leading-append, leading-all, trim-is, trim-cut}
 use Rattle.head.specs.Lines.{Entry, valued, named_to, field_of, join_field, fields_of}
 use Rattle.head.specs.Grammar.{FieldLine, FieldLines}
 
@@ -16,7 +16,7 @@ cond-some false x e h = absurd (let z : ◌≡◌ {A = ℕ} 0 1 = cc in omega ar
 some_same : {A : Type 0} (x y : A) → Some x ≡ Some y → x ≡ y
 some_same x y h = cc
 
-named-form : (at n : ℕ) (line : List ℕ) → n ≡ prefix_len token_byte line → 1 ≤ n → get_or line n 0 ≡ 58 → every value_byte (trimmed (drop (n + 1) line)) ≡ true → length (trimmed (drop (n + 1) line)) ≤ 4096 → FieldLine line (take n line) (trimmed (drop (n + 1) line))
+named-form : (at n : ℕ) (line : List ℕ) → n ≡ prefix_len token_byte line → 1 ≤ n → get_or line n 0 ≡ 58 → list_all value_byte (trimmed (drop (n + 1) line)) ≡ true → length (trimmed (drop (n + 1) line)) ≤ 4096 → FieldLine line (take n line) (trimmed (drop (n + 1) line))
 named-form at n line is some colon plain short =
     let rest = drop (n + 1) line in
     let cut = trim-cut rest in
@@ -26,7 +26,7 @@ named-form at n line is some colon plain short =
       after = cut.after;
       is = sym (take-append-drop n line) ∙ ap (λ l. take n line ++ l) (drop_more line n 0 inside) ∙ ap (λ b. take n line ++ (b ∷ rest)) colon ∙ ap (λ l. take n line ++ (58 ∷ l)) cut.is;
       named = omega (arith, length-take-le n line (omega arith));
-      token = ap (λ m. every token_byte (take m line)) is ∙ leading-every token_byte line;
+      token = ap (λ m. list_all token_byte (take m line)) is ∙ leading-all token_byte line;
       plain = plain;
       short = short;
       blanks-before = cut.blanks-before;
@@ -42,8 +42,8 @@ field-sound at line e h =
     let v = trimmed (drop (n + 1) line) in
     let p = cond-some (leb 1 n && eqb (get_or line n 0) 58) (valued at (take n line) v) e h in
     let q = and_parts (leb 1 n) (eqb (get_or line n 0) 58) p.0 in
-    let r = cond-some (every value_byte v && leb (length v) 4096) (Some (record { at = at; name = take n line; value = v })) e p.1 in
-    let s = and_parts (every value_byte v) (leb (length v) 4096) r.0 in
+    let r = cond-some (list_all value_byte v && leb (length v) 4096) (Some (record { at = at; name = take n line; value = v })) e p.1 in
+    let s = and_parts (list_all value_byte v) (leb (length v) 4096) r.0 in
     let form = named-form at n line refl (leb-true 1 n q.0) (eqb-true (get_or line n 0) 58 q.1) s.0 (leb-true (length v) 4096 s.1) in
     subst (λ (x : Entry). (x.at ≡ at) × FieldLine line x.name x.value) (some_same _ e r.1) (refl, form)
 

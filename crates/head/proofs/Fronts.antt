@@ -1,7 +1,7 @@
 -- A list that begins with another: the test and the fact.
-use Rattle.std.proofs.Common.{◌≡◌, ℕ, zero, suc, ◌+◌, ◌-◌, ◌<◌, ◌≤◌, Bool, true, false, eqb, List, [], ◌∷◌, ◌++◌, length, get_or, drop, None, sym, refl, ap, ◌∙◌, arith, length-drop, rules}
+use Rattle.std.proofs.Common.{◌≡◌, ℕ, zero, suc, ◌+◌, ◌<◌, ◌≤◌, Bool, true, false, eqb, List, [], ◌∷◌, ◌++◌, length, get_or, drop, None, sym, refl, ap, ◌∙◌, arith, length-drop, rules}
 use Rattle.std.proofs.lemmas.List.{at_drop_more, get_or-drop, drop_more}
-use Rattle.std.proofs.lemmas.Bool.{eqb-true, eq-eqb, ne_eqb, and_parts, and_from, and_left, and_right, cond-true, cond-false}
+use Rattle.std.proofs.lemmas.Bool.{eqb-true, eq-eqb, ne_eqb, and_parts, and_from, and_left, and_right, cond-false}
 use Rattle.head.specs.Marks.{front, line_end, head_mark, mark_from, line_length}
 
 pub front-is : (p s : List ℕ) → front p s ≡ true → s ≡ p ++ drop (length p) s
@@ -29,6 +29,10 @@ front-short [] s h = absurd (omega arith)
 front-short (c ∷ p) [] h = refl
 front-short (c ∷ p) (x ∷ s) h = and_right (eqb x c) (front p s) (front-short p s (omega arith))
 
+pub mark-short : (mark : List ℕ) (n : ℕ) (s : List ℕ) → length s < length mark → mark_from mark n s ≡ None
+mark-short mark n [] h = refl
+mark-short mark n (b ∷ bs) h = cond-false _ _ _ (front-short mark (b ∷ bs) h) ∙ mark-short mark (n + 1) bs (omega arith)
+
 front-other : (p s : List ℕ) (k : ℕ) → k < length p → (get_or s k 0 ≡ get_or p k 0 → ⊥) → front p s ≡ false
 front-other [] s k h n = absurd (omega arith)
 front-other (c ∷ p) [] k h n = refl
@@ -51,36 +55,11 @@ mark-skip xs i lt high =
     ∙ next (i + 2) (i + 3) (omega arith) (omega arith) (other_at head_mark xs (i + 2) j 1 (omega arith) (omega arith) (omega arith) high)
     ∙ next (i + 3) (i + 4) (omega arith) (omega arith) (other_at head_mark xs (i + 3) j 0 (omega arith) (omega arith) (omega arith) high)
 
-mark-short : (n : ℕ) (s : List ℕ) → length s < 4 → mark_from head_mark n s ≡ None
-mark-short n [] h = refl
-mark-short n (b ∷ bs) h = cond-false _ _ _ (front-short head_mark (b ∷ bs) h) ∙ mark-short (n + 1) bs (omega arith)
-
 pub mark-none : (xs : List ℕ) (i : ℕ) → length xs ≤ i + 3 → mark_from head_mark i (drop i xs) ≡ None
-mark-none xs i h = mark-short i (drop i xs) (omega (arith, length-drop i xs))
+mark-none xs i h = mark-short head_mark i (drop i xs) (omega (arith, length-drop i xs))
 
 pub line-next : (xs : List ℕ) (i : ℕ) → i < length xs → front line_end (drop i xs) ≡ false → line_length (drop i xs) ≡ 1 + line_length (drop (i + 1) xs)
 line-next xs i lt no' = at_drop_more line_length xs i 0 lt ∙ cond-false _ _ _ (sym (ap (front line_end) (drop_more xs i 0 lt)) ∙ no')
 
-pub line-skip : (xs : List ℕ) (i : ℕ) → i + 1 < length xs → 13 < get_or xs (i + 1) 0 → line_length (drop i xs) ≡ 2 + line_length (drop (i + 2) xs)
-line-skip xs i lt high =
-    let j = i + 1 in
-    let a = line-next xs i (omega arith) (other_at line_end xs i j 1 (omega arith) (omega arith) (omega arith) high) in
-    let b = line-next xs j lt (other_at line_end xs j j 0 (omega arith) (omega arith) (omega arith) high) in
-    let same : j + 1 ≡ i + 2 = omega arith in
-    omega (arith, a, b, ap (λ m. line_length (drop m xs)) same)
-
--- a line end at i, or none
-pub line-here : (xs : List ℕ) (i : ℕ) → i + 1 < length xs → get_or xs i 0 ≡ 13 → get_or xs (i + 1) 0 ≡ 10 → line_length (drop i xs) ≡ 0
-line-here xs i lt a b =
-    let two = drop_more xs i 0 (omega arith) ∙ ap (λ l. get_or xs i 0 ∷ l) (drop_more xs (i + 1) 0 lt) in
-    ap line_length two ∙ cond-true _ _ _ (and_from _ _ (eq-eqb _ 13 a) (and_from _ _ (eq-eqb _ 10 b) refl))
-
 pub line_other : (xs : List ℕ) (i k : ℕ) → i < length xs → k < 2 → (get_or xs (i + k) 0 ≡ get_or line_end k 0 → ⊥) → line_length (drop i xs) ≡ 1 + line_length (drop (i + 1) xs)
 line_other xs i k lt few n = line-next xs i lt (front-other line_end (drop i xs) k few (λ e. n (sym (get_or-drop i xs k 0) ∙ e)))
-
-line-short : (s : List ℕ) → length s < 2 → line_length s ≡ length s
-line-short [] h = refl
-line-short (b ∷ bs) h = cond-false _ _ _ (front-short line_end (b ∷ bs) h) ∙ omega (arith, line-short bs (omega arith))
-
-pub line-none : (xs : List ℕ) (i : ℕ) → length xs ≤ i + 1 → line_length (drop i xs) ≡ length xs - i
-line-none xs i h = line-short (drop i xs) (omega (arith, length-drop i xs)) ∙ length-drop i xs

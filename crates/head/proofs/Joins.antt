@@ -1,9 +1,10 @@
 -- Lines joined by line ends, and marks among them.
 use Rattle.std.proofs.Common.{◌≡◌, ℕ, zero, suc, ◌+◌, ◌-◌, ◌<◌, ◌≤◌, Bool, true, false, cond, not, ◌&&◌, eqb, List, [], ◌∷◌, ◌++◌, length, take, drop, Some, None, Option, sym, refl, ap, ◌∙◌, subst, append_assoc, arith, length-append}
+use Rattle.std.specs.List.{list_all}
 use Rattle.std.proofs.lemmas.List.{append-nil}
 use Rattle.std.proofs.lemmas.Bool.{eqb-true, and_parts, and_left, cond-true, cond-false, not-true, true≢false}
-use Rattle.text.specs.Bytes.{token_byte, value_byte, blank, every}
-use Rattle.text.proofs.Runs.{every_append, every-weaker}
+use Rattle.text.specs.Bytes.{token_byte, value_byte, blank}
+use Rattle.text.proofs.Runs.{all_append, all-weaker}
 use Rattle.head.specs.Marks.{front, line_end, head_mark, mark_from, with_byte, cut_lines, lines_of}
 use Rattle.head.specs.Lines.{Entry}
 use Rattle.head.specs.Grammar.{FieldLine, FieldLines, led, join_lines}
@@ -20,19 +21,19 @@ not-cr p h b t = elim (eqb b 13) as (λ v. eqb b 13 ≡ v → not v ≡ true) [
   | false ↦ λ e. refl
 ] refl
 
-pub line_clean : (line name value : List ℕ) → FieldLine line name value → every not_cr line ≡ true
+pub line_clean : (line name value : List ℕ) → FieldLine line name value → list_all not_cr line ≡ true
 line_clean line name value f =
-    let n = every-weaker token_byte not_cr name (not-cr token_byte refl) f.token in
-    let b = every-weaker blank not_cr f.before (not-cr blank refl) f.blanks-before in
-    let v = every-weaker value_byte not_cr value (not-cr value_byte refl) f.plain in
-    let a = every-weaker blank not_cr f.after (not-cr blank refl) f.blanks-after in
-    let tail : every not_cr (58 ∷ (f.before ++ (value ++ f.after))) ≡ true = every_append not_cr f.before (value ++ f.after) b (every_append not_cr value f.after v a) in
-    subst (λ l. every not_cr l ≡ true) (sym f.is) (every_append not_cr name (58 ∷ (f.before ++ (value ++ f.after))) n tail)
+    let n = all-weaker token_byte not_cr name (not-cr token_byte refl) f.token in
+    let b = all-weaker blank not_cr f.before (not-cr blank refl) f.blanks-before in
+    let v = all-weaker value_byte not_cr value (not-cr value_byte refl) f.plain in
+    let a = all-weaker blank not_cr f.after (not-cr blank refl) f.blanks-after in
+    let tail : list_all not_cr (58 ∷ (f.before ++ (value ++ f.after))) ≡ true = all_append not_cr f.before (value ++ f.after) b (all_append not_cr value f.after v a) in
+    subst (λ l. list_all not_cr l ≡ true) (sym f.is) (all_append not_cr name (58 ∷ (f.before ++ (value ++ f.after))) n tail)
 
 -- clean lines that are not empty
 abbrev pub Clean : List (List ℕ) → Type 0
 Clean [] = Unit {0}
-Clean (l ∷ ls) = (every not_cr l ≡ true) × (0 < length l) × Clean ls
+Clean (l ∷ ls) = (list_all not_cr l ≡ true) × (0 < length l) × Clean ls
 
 pub lines-clean : (at : ℕ) (ls : List (List ℕ)) (fs : List Entry) → FieldLines at ls fs → Clean ls
 lines-clean at [] [] h = tt
@@ -43,23 +44,23 @@ lines-clean at (l ∷ ls) (f ∷ fs) h =
     let long : 0 < length l = omega (arith, ap length form.is, length-append f.name (58 ∷ (form.before ++ (f.value ++ form.after))), form.named) in
     (line_clean l f.name f.value form, long, lines-clean (at + (length l + 2)) ls fs h.2)
 
-skip-line : (l x : List ℕ) (f : List ℕ) (r : List (List ℕ)) → every not_cr l ≡ true → lines_of x ≡ f ∷ r → lines_of (l ++ x) ≡ (l ++ f) ∷ r
+skip-line : (l x : List ℕ) (f : List ℕ) (r : List (List ℕ)) → list_all not_cr l ≡ true → lines_of x ≡ f ∷ r → lines_of (l ++ x) ≡ (l ++ f) ∷ r
 skip-line [] x f r c e = e
 skip-line (b ∷ l) x f r c e =
-    let p = and_parts (not_cr b) (every not_cr l) c in
+    let p = and_parts (not_cr b) (list_all not_cr l) c in
     cond-false _ _ _ (and_left (eqb b 13) (front (10 ∷ []) (l ++ x)) (not-true (eqb b 13) p.0)) ∙ ap (with_byte b) (skip-line l x f r p.1 e)
 
 lines-led : (ls : List (List ℕ)) → Clean ls → lines_of (led ls) ≡ [] ∷ ls
 lines-led [] c = refl
 lines-led (l ∷ ls) c = ap (λ r. [] ∷ r) (skip-line l (led ls) [] ls c.0 (lines-led ls c.2) ∙ ap (λ m. m ∷ ls) (append-nil l))
 
-pub lines_join : (l : List ℕ) (ls : List (List ℕ)) → every not_cr l ≡ true → Clean ls → lines_of (join_lines (l ∷ ls)) ≡ l ∷ ls
+pub lines_join : (l : List ℕ) (ls : List (List ℕ)) → list_all not_cr l ≡ true → Clean ls → lines_of (join_lines (l ∷ ls)) ≡ l ∷ ls
 lines_join l ls h c = skip-line l (led ls) [] ls h (lines-led ls c) ∙ ap (λ m. m ∷ ls) (append-nil l)
 
-skip-mark : (l x : List ℕ) (n : ℕ) → every not_cr l ≡ true → mark_from head_mark n (l ++ x) ≡ mark_from head_mark (n + length l) x
+skip-mark : (l x : List ℕ) (n : ℕ) → list_all not_cr l ≡ true → mark_from head_mark n (l ++ x) ≡ mark_from head_mark (n + length l) x
 skip-mark [] x n c = ap (λ m. mark_from head_mark m x) (omega arith)
 skip-mark (b ∷ l) x n c =
-    let p = and_parts (not_cr b) (every not_cr l) c in
+    let p = and_parts (not_cr b) (list_all not_cr l) c in
     let same : n + 1 + length l ≡ n + length (b ∷ l) = omega arith in
     cond-false _ _ _ (and_left (eqb b 13) (front (10 ∷ 13 ∷ 10 ∷ []) (l ++ x)) (not-true (eqb b 13) p.0)) ∙ skip-mark l x (n + 1) p.1 ∙ ap (λ m. mark_from head_mark m x) same
 
@@ -67,7 +68,7 @@ mark-led : (ls : List (List ℕ)) (tail : List ℕ) (n : ℕ) → Clean ls → m
 mark-led [] tail n c = ap Some (omega arith)
 mark-led ([] ∷ ls) tail n c = absurd (omega (arith, c.1))
 mark-led ((b ∷ l) ∷ ls) tail n c =
-    let p = and_parts (not_cr b) (every not_cr l) c.0 in
+    let p = and_parts (not_cr b) (list_all not_cr l) c.0 in
     let end = head_mark ++ tail in
     let same : n + 1 + 1 + length (b ∷ l) + length (led ls) ≡ n + length (led ((b ∷ l) ∷ ls)) = omega (arith, length-append l (led ls)) in
     cond-false _ _ _ (and_left (eqb b 13) (front (10 ∷ []) ((l ++ led ls) ++ end)) (not-true (eqb b 13) p.0))
@@ -76,7 +77,7 @@ mark-led ((b ∷ l) ∷ ls) tail n c =
     ∙ mark-led ls tail (n + 1 + 1 + length (b ∷ l)) c.2
     ∙ ap Some same
 
-pub mark-join : (l : List ℕ) (ls : List (List ℕ)) (tail : List ℕ) → every not_cr l ≡ true → Clean ls → mark_from head_mark 0 (join_lines (l ∷ ls) ++ (head_mark ++ tail)) ≡ Some (length (join_lines (l ∷ ls)))
+pub mark-join : (l : List ℕ) (ls : List (List ℕ)) (tail : List ℕ) → list_all not_cr l ≡ true → Clean ls → mark_from head_mark 0 (join_lines (l ∷ ls) ++ (head_mark ++ tail)) ≡ Some (length (join_lines (l ∷ ls)))
 mark-join l ls tail h c =
     let same : 0 + length l + length (led ls) ≡ length (l ++ led ls) = omega (arith, length-append l (led ls)) in
     ap (mark_from head_mark 0) (append_assoc l (led ls) (head_mark ++ tail)) ∙ skip-mark l (led ls ++ (head_mark ++ tail)) 0 h ∙ mark-led ls tail (0 + length l) c ∙ ap Some same

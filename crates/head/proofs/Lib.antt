@@ -7,3 +7,4 @@ pub mod Joins
 pub mod Slots
 pub mod Soles
 pub mod Wholes
+pub mod Windows

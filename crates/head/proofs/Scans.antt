@@ -3,10 +3,10 @@ use Rattle.std.proofs.Common.{◌≡◌, ℕ, zero, suc, ◌+◌, ◌<◌, ◌�
 use Rattle.std.proofs.lemmas.List.{drop-take, get_or-take, get_or_past, length-take-le}
 use Rattle.std.proofs.lemmas.Bool.{cases_lt, cases_Bool, eq-eqb, ne_eqb, and_from, and_left, and_right, cond-true, cond-false, true≢false, le-leb, lt-leb}
 use Rattle.std.proofs.lemmas.Bool.Decides.{nat_tests}
-use Rattle.std.specs.List.{prefix_len}
-use Rattle.text.specs.Bytes.{token_byte, value_byte, blank, every}
+use Rattle.std.specs.List.{prefix_len, list_all}
+use Rattle.text.specs.Bytes.{token_byte, value_byte, blank}
 use Rattle.text.specs.Words.{trimmed}
-use Rattle.text.proofs.Runs.{every-is, leading-every, every_append, every_front, every_rest, every-weaker, trim-cut}
+use Rattle.text.proofs.Runs.{all-is, leading-all, all_append, all_front, all_rest, all-weaker, trim-cut}
 use Rattle.head.specs.Marks.{front, line_end, line_length}
 use Rattle.head.specs.Lines.{valued, named_to, field_of}
 use Rattle.head.specs.Loops.{first_line, ends_here}
@@ -67,16 +67,16 @@ get_or-cut m n s h = elim (cases_lt n m) [
   length_cut (suc m) (b ∷ bs) = omega (arith, length_cut m bs)
 
 -- outer blanks are bytes of a value
-trim-plain : (s : List ℕ) → every value_byte (trimmed s) ≡ every value_byte s
+trim-plain : (s : List ℕ) → list_all value_byte (trimmed s) ≡ list_all value_byte s
 trim-plain s =
     let cut = trim-cut s in
     let t = trimmed s in
-    let weak = λ (x : List ℕ) (h : every blank x ≡ true). every-weaker blank value_byte x blank-value h in
-    let from : every value_byte t ≡ true → every value_byte s ≡ true = λ h. subst (λ l. every value_byte l ≡ true) (sym cut.is) (every_append value_byte cut.before (t ++ cut.after) (weak cut.before cut.blanks-before) (every_append value_byte t cut.after h (weak cut.after cut.blanks-after))) in
-    let to : every value_byte s ≡ true → every value_byte t ≡ true = λ h. every_front value_byte t cut.after (every_rest value_byte cut.before (t ++ cut.after) (subst (λ l. every value_byte l ≡ true) cut.is h)) in
-    elim (cases_Bool (every value_byte t)) [
+    let weak = λ (x : List ℕ) (h : list_all blank x ≡ true). all-weaker blank value_byte x blank-value h in
+    let from : list_all value_byte t ≡ true → list_all value_byte s ≡ true = λ h. subst (λ l. list_all value_byte l ≡ true) (sym cut.is) (all_append value_byte cut.before (t ++ cut.after) (weak cut.before cut.blanks-before) (all_append value_byte t cut.after h (weak cut.after cut.blanks-after))) in
+    let to : list_all value_byte s ≡ true → list_all value_byte t ≡ true = λ h. all_front value_byte t cut.after (all_rest value_byte cut.before (t ++ cut.after) (subst (λ l. list_all value_byte l ≡ true) cut.is h)) in
+    elim (cases_Bool (list_all value_byte t)) [
       | inl y ↦ y ∙ sym (from y)
-      | inr n ↦ elim (cases_Bool (every value_byte s)) [ inl y ↦ absurd (true≢false (sym (to y) ∙ n)) | inr m ↦ n ∙ sym m ]
+      | inr n ↦ elim (cases_Bool (list_all value_byte s)) [ inl y ↦ absurd (true≢false (sym (to y) ∙ n)) | inr m ↦ n ∙ sym m ]
     ] where
       blank-value : (b : ℕ) → blank b ≡ true → value_byte b ≡ true
       blank-value b h = grind (arith, nat_tests)
@@ -122,24 +122,24 @@ ends-later [] e = absurd (true≢false e)
 ends-later (b ∷ bs) e = omega (arith, cond-false (front line_end (b ∷ bs)) 0 (1 + line_length bs) e)
 
 -- bytes of a value that end the line
-ended : (m : ℕ) (v : List ℕ) → m ≡ prefix_len value_byte v → ends_here (drop m v) ≡ true → (line_length v ≡ m) × (every value_byte (trimmed (first_line v)) ≡ true)
+ended : (m : ℕ) (v : List ℕ) → m ≡ prefix_len value_byte v → ends_here (drop m v) ≡ true → (line_length v ≡ m) × (list_all value_byte (trimmed (first_line v)) ≡ true)
 ended m v is e =
     let long : line_length v ≡ prefix_len value_byte v = omega (arith, line-past value_byte v refl, ends-none (drop (prefix_len value_byte v) v) (ap (λ k. ends_here (drop k v)) (sym is) ∙ e)) in
-    (long ∙ sym is, trim-plain (first_line v) ∙ ap (λ k. every value_byte (take k v)) long ∙ leading-every value_byte v)
+    (long ∙ sym is, trim-plain (first_line v) ∙ ap (λ k. list_all value_byte (take k v)) long ∙ leading-all value_byte v)
 
 -- bytes of a value, and then another within the line
-broken : (m : ℕ) (v : List ℕ) → m ≡ prefix_len value_byte v → ends_here (drop m v) ≡ false → every value_byte (trimmed (first_line v)) ≡ false
+broken : (m : ℕ) (v : List ℕ) → m ≡ prefix_len value_byte v → ends_here (drop m v) ≡ false → list_all value_byte (trimmed (first_line v)) ≡ false
 broken m v is e =
     let n = prefix_len value_byte v in
     let past = line-past value_byte v refl in
     let more = ends-later (drop n v) (ap (λ k. ends_here (drop k v)) (sym is) ∙ e) in
     let lead' : prefix_len value_byte (first_line v) ≡ n = ap (λ k. prefix_len value_byte (take k v)) past ∙ leading-take value_byte v (line_length (drop n v)) in
     let long = length-take-le (line_length v) v (line-le v) in
-    trim-plain (first_line v) ∙ sym (every-is value_byte (first_line v)) ∙ ne_eqb _ _ (λ h. omega (arith, h, lead', long, past, more))
+    trim-plain (first_line v) ∙ sym (all-is value_byte (first_line v)) ∙ ne_eqb _ _ (λ h. omega (arith, h, lead', long, past, more))
 
 pub field-bad : (at n m : ℕ) (s after : List ℕ) → n ≡ prefix_len token_byte s → (n ≡ 0 → ⊥) → n < length s → get_or s n 0 ≡ 58 → after ≡ drop (n + 1) s → m ≡ prefix_len value_byte after → ends_here (drop m after) ≡ false → None ≡ field_of at (first_line s)
 field-bad at n m s after is some lt mark from m-is e =
-    let bad = subst (λ l. every value_byte (trimmed (first_line l)) ≡ false) from (broken m after m-is e) in
+    let bad = subst (λ l. list_all value_byte (trimmed (first_line l)) ≡ false) from (broken m after m-is e) in
     sym ((colon at n s is some lt mark).1 ∙ cond-false _ _ _ (and_left _ _ bad))
 
 pub field-good : (at n m : ℕ) (s after value : List ℕ) → n ≡ prefix_len token_byte s → (n ≡ 0 → ⊥) → n < length s → get_or s n 0 ≡ 58 → after ≡ drop (n + 1) s → m ≡ prefix_len value_byte after → ends_here (drop m after) ≡ true → value ≡ trimmed (take m after) → (line_length s ≡ n + 1 + m) × (field_of at (first_line s) ≡ cond (leb (length value) 4096) (Some (record { at = at; name = take n s; value = value })) None)
@@ -147,7 +147,7 @@ field-good at n m s after value is some lt mark from m-is e v-is =
     let good = ended m after m-is e in
     let line = colon at n s is some lt mark in
     let same : value ≡ trimmed (first_line (drop (n + 1) s)) = v-is ∙ ap (λ k. trimmed (take k after)) (sym good.0) ∙ ap (λ l. trimmed (first_line l)) from in
-    let plain = subst (λ l. every value_byte l ≡ true) (sym (v-is ∙ ap (λ k. trimmed (take k after)) (sym good.0))) good.1 in (
+    let plain = subst (λ l. list_all value_byte l ≡ true) (sym (v-is ∙ ap (λ k. trimmed (take k after)) (sym good.0))) good.1 in (
       omega (arith, line.0, good.0, ap line_length from),
       line.1 ∙ ap (valued at (take n s)) (sym same) ∙ ap (λ b. cond (b && leb (length value) 4096) (Some (record { at = at; name = take n s; value = value })) None) plain,
     )

@@ -69,20 +69,16 @@ gather-turn xs left end n t r h l is few e =
     ∙ ap (λ s. and_then s (λ t'. gathered t' (fields_of (left - 1) (at + n + 2) rest))) (ap (λ m. with_line t at (field_of at (take m (drop at xs)))) (sym back) ∙ sym e)
 
 -- the head whose empty line begins at n and whose first line has `first` bytes, as the code has its parts
-pub head_at : (input : List ℕ) (n first : ℕ) (r : Result ℕ Fault) → r ≡ end_of input → r ≡ Ok n → first ≡ line_length (take (n - 0) input) → first ≤ length (take (n - 0) input) → with_path n (path_of (take (first - 0) (take (n - 0) input))) (gathered empty (fields_of 64 (first + 2) (lines_after (drop first (take (n - 0) input))))) ≡ head_of input
+pub head_at : (input : List ℕ) (n first : ℕ) (r : Result ℕ Fault) → r ≡ end_of input → r ≡ Ok n → first ≡ line_length (take n input) → first ≤ length (take n input) → with_path n (path_of (take first (take n input))) (gathered empty (fields_of 64 (first + 2) (lines_after (drop first (take n input))))) ≡ head_of input
 unfolding head_of
 head_at input n first r e was is few =
-    let body = take (n - 0) input in
-    let n-is : n - 0 ≡ n = omega arith in
-    let first-is : first - 0 ≡ first = omega arith in
+    let body = take n input in
     let long : length (take first body) ≡ first = length-take-le first body few in
     let line = take first body in
     let rest = lines_after (drop first body) in
-    ap (λ m. with_path n (path_of (take m body)) (gathered empty (fields_of 64 (first + 2) rest))) first-is
-    ∙ ap (λ m. with_path n (path_of line) (gathered empty (fields_of 64 (m + 2) rest))) (sym long)
+    ap (λ m. with_path n (path_of line) (gathered empty (fields_of 64 (m + 2) rest))) (sym long)
     ∙ ap (λ m. judged n (take m body ∷ lines_after (drop m body))) is
     ∙ ap (judged n) (sym (lines_more body))
-    ∙ ap (λ m. judged n (lines_of (take m input))) n-is
     ∙ ap (up_to input) (sym was ∙ e)
 
 pub head-fault : (input : List ℕ) (f : Fault) (r : Result ℕ Fault) → r ≡ end_of input → r ≡ Err f → Err f ≡ head_of input

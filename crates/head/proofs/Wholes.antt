@@ -1,13 +1,14 @@
 -- An input reads as a head exactly where it begins with one, and what does not matter to it.
 use Rattle.std.proofs.Common.{◌≡◌, ℕ, ◌+◌, ◌-◌, ◌<◌, ◌≤◌, true, false, cond, ◌&&◌, ltb, leb, List, [], ◌∷◌, ◌++◌, map, length, take, drop, IfOk, Some, None, Ok, Err, codes, fold, Option, Result, sym, refl, ap, ◌∙◌, subst, append_assoc, arith, length-append, length-take}
+use Rattle.std.specs.List.{list_all}
 use Rattle.std.proofs.lemmas.Slice.Eq.{bytes_eq-Decides}
 use Rattle.std.proofs.lemmas.List.{take-append-drop, take_at, take_all}
 use Rattle.std.proofs.lemmas.Bool.{and_parts, ltb-true, cond-true}
 use Rattle.std.specs.Char.{to_ascii_lowercase}
 use Rattle.std.specs.Str.{bytes_eq}
-use Rattle.text.specs.Bytes.{visible, every}
+use Rattle.text.specs.Bytes.{visible}
 use Rattle.text.specs.Words.{same_letters}
-use Rattle.text.proofs.Runs.{every_append, every-weaker}
+use Rattle.text.proofs.Runs.{all_append, all-weaker}
 use Rattle.head.specs.declared.Head.{Head}
 use Rattle.head.specs.declared.Fault.{Fault}
 use Rattle.head.specs.declared.Fault.TheVariants.{Unfinished, Malformed}
@@ -68,12 +69,12 @@ end_is input body rest is soon found = ap (λ l. in_time input (mark_from head_m
 body_is : (input body rest : List ℕ) (n : ℕ) → input ≡ body ++ (head_mark ++ rest) → n ≡ length body → take n input ≡ body
 body_is input body rest n is long = ap (take n) is ∙ take_at body (head_mark ++ rest) n (sym long)
 
-request-clean : (path : List ℕ) → good_path path ≡ true → every not_cr (request_of path) ≡ true
+request-clean : (path : List ℕ) → good_path path ≡ true → list_all not_cr (request_of path) ≡ true
 request-clean path good =
-    let p = and_parts _ (leb (length path) 128 && every visible path) good in
-    let q = and_parts (leb (length path) 128) (every visible path) p.1 in
-    let v = every-weaker visible not_cr path (not-cr visible refl) q.1 in
-    every_append not_cr (codes "BITS_POST ") (path ++ codes " HTTP/1.1") refl (every_append not_cr path (codes " HTTP/1.1") v refl)
+    let p = and_parts _ (leb (length path) 128 && list_all visible path) good in
+    let q = and_parts (leb (length path) 128) (list_all visible path) p.1 in
+    let v = all-weaker visible not_cr path (not-cr visible refl) q.1 in
+    all_append not_cr (codes "BITS_POST ") (path ++ codes " HTTP/1.1") refl (all_append not_cr path (codes " HTTP/1.1") v refl)
 
 -- a head of the grammar reads as its path and its known fields
 pub parts-read : (input path : List ℕ) (fields : List Entry) (size n : ℕ) → Parts input path fields size → size ≡ n + 4 → head_of input ≡ with_table path n (Ok (fold kept empty fields))

@@ -1,7 +1,8 @@
 -- What a head is: a request line and at most 64 fields, joined by CR LF and closed by an empty line, at most 8,192 bytes.
 use Rattle.std.specs.Prelude.{◌≡◌, ℕ, ◌+◌, ◌-◌, ◌<◌, ◌≤◌, true, false, List, [], ◌∷◌, ◌++◌, map, length, Some, None, Option, ◌≢◌, slice_index, slice_index_or}
+use Rattle.std.specs.List.{list_all}
 use Rattle.std.specs.Char.{to_ascii_lowercase}
-use Rattle.text.specs.Bytes.{token_byte, value_byte, blank, every}
+use Rattle.text.specs.Bytes.{token_byte, value_byte, blank}
 use Rattle.head.specs.Marks.{line_end, head_mark}
 use Rattle.head.specs.Lines.{Entry, request_of, good_path}
 use Rattle.head.specs.declared.fields.Name.{Name}
@@ -13,11 +14,11 @@ pub record FieldLine (line name value : List ℕ) : Type 0 where
   pub after : List ℕ
   pub is : line ≡ name ++ (58 ∷ (before ++ (value ++ after)))
   pub named : 0 < length name
-  pub token : every token_byte name ≡ true
-  pub plain : every value_byte value ≡ true
+  pub token : list_all token_byte name ≡ true
+  pub plain : list_all value_byte value ≡ true
   pub short : length value ≤ 4096
-  pub blanks-before : every blank before ≡ true
-  pub blanks-after : every blank after ≡ true
+  pub blanks-before : list_all blank before ≡ true
+  pub blanks-after : list_all blank after ≡ true
   pub first : blank (slice_index value 0) ≡ false
   pub last : blank (slice_index value (length value - 1)) ≡ false
 

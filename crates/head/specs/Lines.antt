@@ -1,13 +1,13 @@
 -- The lines of a head: the request line and the fields.
 use Rattle.std.specs.Prelude.{ℕ, zero, suc, ◌+◌, ◌-◌, Bool, cond, ◌&&◌, List, [], ◌∷◌, ◌++◌, length, take, drop, Some, None, Ok, Err, codes, Option, Result, ◌==◌, nat_le, slice_index}
-use Rattle.std.specs.List.{prefix_len}
+use Rattle.std.specs.List.{prefix_len, list_all}
 use Rattle.std.specs.Str.{bytes_eq}
-use Rattle.text.specs.Bytes.{token_byte, value_byte, visible, every}
+use Rattle.text.specs.Bytes.{token_byte, value_byte, visible}
 use Rattle.text.specs.Words.{trimmed}
 use Rattle.head.specs.declared.lines.Field.{Field}
 
 abbrev pub good_path : List ℕ → Bool
-good_path p = slice_index p 0 == 47 && (nat_le (length p) 128 && every visible p)
+good_path p = slice_index p 0 == 47 && (nat_le (length p) 128 && list_all visible p)
 
 -- the line is this method, this path and this version
 abbrev pub request_of : List ℕ → List ℕ
@@ -27,7 +27,7 @@ pub record Entry : Type 0 where
   pub value : List ℕ
 
 abbrev pub valued : ℕ → List ℕ → List ℕ → Option Entry
-valued at n v = cond (every value_byte v && nat_le (length v) 4096) (Some (record { at = at; name = n; value = v })) None
+valued at n v = cond (list_all value_byte v && nat_le (length v) 4096) (Some (record { at = at; name = n; value = v })) None
 
 abbrev pub named_to : ℕ → ℕ → List ℕ → Option Entry
 named_to n at line = cond (nat_le 1 n && slice_index line n == 58) (valued at (take n line) (trimmed (drop (n + 1) line))) None

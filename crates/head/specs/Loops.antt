@@ -1,5 +1,5 @@
 -- The same line after line, as a loop goes.
-use Rattle.std.specs.Prelude.{ℕ, Bool, true, false, cond, List, [], ◌∷◌, length, take, drop, Some, None, Ok, Err, Option, Result, nat_le}
+use Rattle.std.specs.Prelude.{ℕ, Bool, true, cond, List, [], ◌∷◌, length, take, drop, Some, None, Ok, Err, Option, Result, nat_le}
 use Rattle.head.specs.declared.Fault.{Fault}
 use Rattle.head.specs.declared.Fault.TheVariants.{Malformed}
 use Rattle.head.specs.Marks.{front, line_end, line_length, lines_of}
@@ -11,9 +11,9 @@ with_line t at None = Err (Malformed at)
 with_line t at (Some e) = Ok (kept t e)
 
 -- the known fields after a line that is good, or its fault
-abbrev pub added : Bool → ℕ → Table → Result Table Fault
-added true at t = Ok t
-added false at t = Err (Malformed at)
+abbrev pub added : Result ℕ Fault → Table → Result Table Fault
+added (Ok n) t = Ok t
+added (Err e) t = Err e
 
 -- a list up to its first line end
 abbrev pub first_line : List ℕ → List ℕ

@@ -9,6 +9,8 @@ ghost use Rattle.head.specs.Laws.{Exact, NoHead, Fenced, Caseless};
 use crate::fields::read_fields;
 use crate::lines::{line_length, read_path};
 use crate::marks::head_mark;
+use std::error::Error;
+use std::fmt;
 
 mod fields;
 mod lines;
@@ -17,7 +19,7 @@ mod marks;
 pub use crate::fields::{Fields, Known};
 
 // What is wrong with a head, with the offset of the line where it lies.
-#[derive(Clone, Copy)]
+#[derive(Clone, Copy, Debug, PartialEq, Eq)]
 pub enum Fault {
     // no empty line yet
     Unfinished,
@@ -28,7 +30,7 @@ pub enum Fault {
 }
 
 impl Fault {
-    // Its number among all outcomes.
+    // Its number among all outcomes. A method, not a conversion: a number alone is no fault.
     pub fn number(self) -> u8
         ensures { result ≡ number_of self }
     {
@@ -45,11 +47,23 @@ impl Fault {
     {
         match self {
             Fault::Unfinished => 0,
-            Fault::Malformed(at) => at,
-            Fault::Repeated(at) => at,
+            Fault::Malformed(at) | Fault::Repeated(at) => at,
         }
     }
 }
+
+impl fmt::Display for Fault {
+    fn fmt<W: fmt::Write>(&self, f: &mut fmt::Formatter<W>) -> fmt::Result {
+        f.write_str(match self {
+            Fault::Unfinished => "the head has no empty line yet",
+            Fault::Malformed(_) =>
+                "a line of the head is bad, or the head does not end within 8192 bytes",
+            Fault::Repeated(_) => "a known field stands again",
+        })
+    }
+}
+
+impl Error for Fault {}
 
 #[derive(Clone, Copy)]
 pub struct Head<'a> {
@@ -63,12 +77,11 @@ fn parse(input: &[u8]) -> Result<Head<'_>, Fault>
     ensures { seen result ≡ head_of input.now }
 {
     let mark = head_mark(input)?;
-    let body = &input[0..mark];
+    let body = &input[..mark];
     let first = line_length(body);
-    let Some(path) = read_path(&body[0..first]) else {
-        return Err(Fault::Malformed(0));
-    };
+    let path = read_path(&body[..first]).ok_or(Fault::Malformed(0))?;
     let fields = read_fields(body, first)?;
+    // told after all lines are read: a bad line comes first
     if let Some(at) = fields.repeated {
         return Err(Fault::Repeated(at));
     }

@@ -27,41 +27,24 @@ pub(crate) fn line_length(s: &[u8]) -> usize
     ensures value { result ≡ line_length s.now }
     ensures within { result ≤ length s.now }
 {
-    let mut i = 0usize;
-    while i + 1 < s.len() {
-        // a byte that no line end has: none begins here or there
-        if s[i + 1] > b'\r' {
-            i += 2;
-            continue;
-        }
-        if s[i] == b'\r' && s[i + 1] == b'\n' {
-            return i;
-        }
-        i += 1;
-    }
-    s.len()
+    s.windows(2)
+        .position(|w| w == b"\r\n".as_slice())
+        .unwrap_or(s.len())
 }
 
 fn is_path(p: &[u8]) -> bool
     ensures { result ≡ good_path p.now }
 {
-    if p.len() == 0 || p.len() > MOST_PATH {
-        return false;
-    }
-    if p[0] != b'/' {
-        return false;
-    }
-    text::all(Kind::Visible, p)
+    p.starts_with(b"/") && p.len() <= MOST_PATH && text::all(Kind::Visible, p)
 }
 
 // The path of a request line.
 pub(crate) fn read_path(line: &[u8]) -> Option<&[u8]>
     ensures { option_map (λ p. p.now) result ≡ path_of line.now }
 {
-    let path = line
-        .strip_prefix(b"BITS_POST ")?
-        .strip_suffix(b" HTTP/1.1")?;
-    if is_path(path) { Some(path) } else { None }
+    line.strip_prefix(b"BITS_POST ")?
+        .strip_suffix(b" HTTP/1.1")
+        .filter(|path| is_path(path))
 }
 
 // Whether a line ends here.
@@ -76,26 +59,21 @@ pub(crate) fn read_field(at: usize, rest: &[u8]) -> Option<Field<'_>>
     ensures value { option_map entry result ≡ field_of at (first_line rest.now) }
     ensures long { IfSome result (λ f. f.length ≡ line_length rest.now) }
 {
-    let n = text::lead(Kind::Name, rest);
-    if n == 0 || n == rest.len() {
+    let (name, rest) = rest.split_at(text::lead(Kind::Name, rest));
+    let after = rest.strip_prefix(b":")?;
+    let (value, rest) = after.split_at(text::lead(Kind::Value, after));
+    if name.is_empty() || !is_end(rest) {
         return None;
     }
-    if rest[n] != b':' {
-        return None;
-    }
-    let after = &rest[n + 1..];
-    let m = text::lead(Kind::Value, after);
-    if !is_end(&after[m..]) {
-        return None;
-    }
-    let value = text::trim(&after[0..m]);
+    let length = name.len() + 1 + value.len();
+    let value = text::trim(value);
     if value.len() > MOST_VALUE {
         return None;
     }
     Some(Field {
         at,
-        name: &rest[0..n],
+        name,
         value,
-        length: n + 1 + m,
+        length,
     })
 }

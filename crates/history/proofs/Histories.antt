@@ -2,6 +2,7 @@
 use Rattle.std.proofs.Common.{◌≡◌, ℕ, List, [], ◌∷◌, ◌++◌, length, replicate, Some, None, Option, sym, refl, ap, ◌∙◌, subst, ⊎_elim}
 use Rattle.std.proofs.lemmas.List.{get_or-replicate, get_or_past}
 use Rattle.std.proofs.lemmas.Bool.{cases_lt}
+use Rattle.std.proofs.lemmas.Option.{none-some}
 use Rattle.packet.specs.Packets.{packet_of}
 use Rattle.store.specs.Meaning.{Meaning}
 use Rattle.session.specs.Sessions.{Live, World, row}
@@ -9,7 +10,6 @@ use Rattle.session.specs.Steps.{Started}
 use Rattle.session.specs.declared.records.Settings.{Settings}
 use Rattle.history.specs.Ledger.{Call, message, answer, tick, Event, Ledger, blank, after_message, after_answer, after_call, drawn}
 use Rattle.history.specs.Law.{Tells, Stepped, Runs, Faithful}
-use Rattle.history.proofs.Rows.{none-some}
 use Rattle.history.proofs.Messages.{unchanged, message-tells}
 use Rattle.history.proofs.Verdicts.{answer-tells}
 use Rattle.history.proofs.Ticks.{tick-tells}

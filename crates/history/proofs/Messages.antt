@@ -4,6 +4,7 @@ use Rattle.std.specs.Map.{update}
 use Rattle.std.specs.Str.{bytes_eq}
 use Rattle.std.proofs.lemmas.Slice.Eq.{bytes_eq-Decides}
 use Rattle.std.proofs.lemmas.Bool.{both_ways, and_parts, eqb-true, cases_Bool, cond_both}
+use Rattle.std.proofs.lemmas.Option.{none-some}
 use Rattle.ids.specs.declared.SessionId.{SessionId}
 use Rattle.outcome.specs.declared.Outcome.{Outcome}
 use Rattle.outcome.specs.declared.Outcome.TheVariants.{Done as Finished, ShortPage, CutBody, TooManySessions, NoSession, UploadsOff}
@@ -19,7 +20,7 @@ use Rattle.session.specs.Steps.{Closed, Done, read_outcome, ReadDone, message_ou
 use Rattle.session.specs.declared.records.Settings.{Settings}
 use Rattle.history.specs.Ledger.{Standing, receiving, ready, Entry, Ledger, written, of_path, named, opening, carried, carrying, closing, cancelling, part_of, after_done, after_cut, after_request, after_message}
 use Rattle.history.specs.Law.{standing_of, Keeps, Whole, Stands, Tells, number}
-use Rattle.history.proofs.Rows.{none-some, passes}
+use Rattle.history.proofs.Rows.{passes}
 use Rattle.history.proofs.OneRow.{one-row, live-row}
 use Rattle.history.proofs.Taken.{taken-keeps}
 use Rattle.history.proofs.Refusals.{Refuses, create-refuses, fragment-refuses, fragment-none, close-refuses, close-none, on-unless, on_row, Bodied, bodied}

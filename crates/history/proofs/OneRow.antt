@@ -4,11 +4,12 @@ use Rattle.std.specs.Map.{update}
 use Rattle.std.proofs.lemmas.List.{length-set, get_or-set_same, get_or-set_other}
 use Rattle.std.proofs.lemmas.Map.{update_here, update_apart}
 use Rattle.std.proofs.lemmas.Bool.{cases_eq}
+use Rattle.std.proofs.lemmas.Option.{none-some}
 use Rattle.session.specs.Sessions.{Live, row}
 use Rattle.session.specs.declared.records.Settings.{Settings}
 use Rattle.history.specs.Ledger.{Entry}
 use Rattle.history.specs.Law.{Keeps, Matched}
-use Rattle.history.proofs.Rows.{none-some, some_inj, row_inside}
+use Rattle.history.proofs.Rows.{some_inj, row_inside}
 
 -- a row and the entry of its serial: both are there and agree, or neither is
 abbrev pub Fits : Settings → ℕ → Option Live → Option Entry → List ℕ → Type 0

@@ -1,25 +1,26 @@
 -- Parts of a bundle: the first byte at each place, and how many places have one.
 use Rattle.std.proofs.Common.{◌≡◌, ℕ, zero, suc, ◌+◌, ◌-◌, ◌<◌, ◌≤◌, min, true, false, cond, leb, List, [], ◌∷◌, ◌++◌, length, drop, is_some, Some, None, Option, sym, refl, ap, ◌∙◌, ⊎_elim, arith}
+use Rattle.std.specs.Option.{option_or}
 use Rattle.std.specs.List.{slice_get}
 use Rattle.std.proofs.lemmas.Option.{slice_get_past}
 use Rattle.std.proofs.lemmas.Bool.{cases_lt, both_ways, le-leb}
-use Rattle.history.specs.Ledger.{Part, carries, or_else, first_byte, reach, places_below, places}
+use Rattle.history.specs.Ledger.{Part, carries, first_byte, reach, places_below, places}
 
-or_else-none : {X : Type 0} (a : Option X) → or_else a None ≡ a
+or_else-none : {X : Type 0} (a : Option X) → option_or a None ≡ a
 or_else-none None = refl
 or_else-none (Some x) = refl
 
-or_else-assoc : {X : Type 0} (a b c : Option X) → or_else (or_else a b) c ≡ or_else a (or_else b c)
+or_else-assoc : {X : Type 0} (a b c : Option X) → option_or (option_or a b) c ≡ option_or a (option_or b c)
 or_else-assoc None b c = refl
 or_else-assoc (Some x) b c = refl
 
-or_else-some : {X : Type 0} (a b : Option X) → is_some a ≡ true → or_else a b ≡ a
+or_else-some : {X : Type 0} (a b : Option X) → is_some a ≡ true → option_or a b ≡ a
 or_else-some None b e = absurd (both_ways false refl e)
 or_else-some (Some x) b e = refl
 
-pub first-push : (qs : List Part) (q : Part) (p : ℕ) → first_byte (qs ++ q ∷ []) p ≡ or_else (first_byte qs p) (carries q p)
+pub first-push : (qs : List Part) (q : Part) (p : ℕ) → first_byte (qs ++ q ∷ []) p ≡ option_or (first_byte qs p) (carries q p)
 first-push [] q p = or_else-none (carries q p)
-first-push (x ∷ xs) q p = ap (λ o. or_else (carries x p) o) (first-push xs q p) ∙ sym (or_else-assoc (carries x p) (first_byte xs p) (carries q p))
+first-push (x ∷ xs) q p = ap (λ o. option_or (carries x p) o) (first-push xs q p) ∙ sym (or_else-assoc (carries x p) (first_byte xs p) (carries q p))
 
 nth_left : {X : Type 0} (xs ys : List X) (i : ℕ) → i < length xs → slice_get (xs ++ ys) i ≡ slice_get xs i
 nth_left [] ys i h = absurd (omega arith)
@@ -41,7 +42,7 @@ nth-some (x ∷ xs) zero h = refl
 nth-some (x ∷ xs) (suc i) h = nth-some xs i (omega arith)
 
 -- a body that begins within what is held adds what is past it
-pub laid : (t body : List ℕ) (from n p : ℕ) → n ≡ length t → from ≤ n → slice_get (t ++ drop (n - from) body) p ≡ or_else (slice_get t p) (cond (leb from p) (slice_get body (p - from)) None)
+pub laid : (t body : List ℕ) (from n p : ℕ) → n ≡ length t → from ≤ n → slice_get (t ++ drop (n - from) body) p ≡ option_or (slice_get t p) (cond (leb from p) (slice_get body (p - from)) None)
 laid t body from n p e h = ⊎_elim
     (λ lt. nth_left t _ p lt ∙ sym (or_else-some (slice_get t p) _ (nth-some t p lt)))
     (λ ge.
@@ -51,7 +52,7 @@ laid t body from n p e h = ⊎_elim
     ap (slice_get (t ++ drop (n - from) body)) i ∙ nth_right t (drop (n - from) body) (p - length t) ∙ nth_drop (n - from) body (p - length t) ∙ ap (slice_get body) j in
     let b : slice_get t p ≡ None = slice_get_past t p ge in
     let c : leb from p ≡ true = le-leb from p (omega arith) in
-    a ∙ sym (ap (λ o. or_else o (cond (leb from p) (slice_get body (p - from)) None)) b ∙ ap (λ o. cond o (slice_get body (p - from)) None) c))
+    a ∙ sym (ap (λ o. option_or o (cond (leb from p) (slice_get body (p - from)) None)) b ∙ ap (λ o. cond o (slice_get body (p - from)) None) c))
     (cases_lt p (length t))
 
 carries-past : (q : Part) (p : ℕ) → q.from + length q.bytes ≤ p → carries q p ≡ None
@@ -59,7 +60,7 @@ carries-past q p h = ap (λ b. cond b (slice_get q.bytes (p - q.from)) None) (le
 
 first_past : (qs : List Part) (p : ℕ) → reach qs ≤ p → first_byte qs p ≡ None
 first_past [] p h = refl
-first_past (q ∷ qs) p h = ap (λ o. or_else o (first_byte qs p)) (carries-past q p (omega arith)) ∙ first_past qs p (omega arith)
+first_past (q ∷ qs) p h = ap (λ o. option_or o (first_byte qs p)) (carries-past q p (omega arith)) ∙ first_past qs p (omega arith)
 
 -- bytes that are the first ones at every place
 module _ (qs : List Part) (xs : List ℕ) (h : (p : ℕ) → slice_get xs p ≡ first_byte qs p) where

@@ -1,6 +1,7 @@
 -- What a plan is, by cases: refused with a number other than 0 and 19, or one act.
 use Rattle.std.proofs.Common.{◌≡◌, ℕ, ◌+◌, ◌≤◌, Bool, true, false, cond, not, eqb, ltb, List, length, drop, Some, None, Ok, Err, Option, Result, sym, refl, arith}
 use Rattle.std.proofs.lemmas.List.{length-take}
+use Rattle.std.proofs.lemmas.Option.{none-some}
 use Rattle.head.specs.Heads.{Reading, head_of}
 use Rattle.head.specs.declared.Fault as text
 use Rattle.outcome.specs.declared.Outcome.{Outcome}
@@ -16,7 +17,6 @@ use Rattle.session.specs.Plans.{Plan, refuse, with_live, with_row, unless}
 use Rattle.session.specs.declared.records.Settings.{Settings}
 use Rattle.history.specs.Ledger.{ready}
 use Rattle.history.specs.Law.{number, standing_of}
-use Rattle.history.proofs.Rows.{none-some}
 
 abbrev pub Refuses : Outcome → Type 0
 Refuses o = (eqb (number o) 0 ≡ false) × (eqb (number o) 19 ≡ false)

@@ -1,18 +1,20 @@
 -- A fragment that is taken: the session and its slot are what its entry tells.
 use Rattle.std.proofs.Common.{◌≡◌, ℕ, ◌+◌, ◌-◌, ◌<◌, ◌≤◌, max, Bool, true, false, cond, not, ◌||◌, eqb, ltb, leb, ◌⊎◌, List, [], ◌∷◌, ◌++◌, length, Some, None, Option, sym, refl, ap, ◌∙◌, inl, inr, ⊎_elim, arith}
+use Rattle.std.specs.Option.{option_or}
 use Rattle.std.specs.List.{slice_get}
 use Rattle.std.proofs.lemmas.List.{length-append, length-drop}
 use Rattle.std.proofs.lemmas.Bool.{or_parts, ltb-false, leb-false, eqb-true, not-false}
+use Rattle.std.proofs.lemmas.Option.{none-some}
 use Rattle.packet.specs.declared.ranges.Range.{Range}
 use Rattle.session.specs.Sessions as session
 use Rattle.session.specs.Sessions.{Phase, Live}
 use Rattle.session.specs.Rules.{other_total, wrong_range, too_large, phase_at, grown}
 use Rattle.session.specs.Plans.{fresh}
 use Rattle.session.specs.declared.records.Settings.{Settings}
-use Rattle.history.specs.Ledger.{Part, carries, or_else, first_byte, places, Standing, receiving, away, ready, Entry, once_whole, carried}
+use Rattle.history.specs.Ledger.{Part, carries, first_byte, places, Standing, receiving, away, ready, Entry, once_whole, carried}
 use Rattle.history.specs.Law.{standing_of, Keeps}
 use Rattle.history.proofs.Parts.{first-push, laid, places_is}
-use Rattle.history.proofs.Rows.{none-some, some_inj}
+use Rattle.history.proofs.Rows.{some_inj}
 
 range-facts : (total : Option ℕ) (r : Range) (n : ℕ) → wrong_range total r n ≡ false → (r.first ≤ r.last) × (r.last < r.total) × (n ≡ r.last - r.first + 1) × (other_total total r.total ≡ false)
 range-facts total r n h =
@@ -80,7 +82,7 @@ module _ (sets : Settings) (clock tells : ℕ) (same : clock ≡ tells) (e : Ent
       omega arith
 
   bytes_after : (p : ℕ) → slice_get (slot ++ fresh x r body) p ≡ first_byte (e.parts ++ part ∷ []) p
-  bytes_after p = laid slot body r.first x.received p k.size starts ∙ ap (λ z. or_else z (carries part p)) (k.bytes p) ∙ sym (first-push e.parts part p)
+  bytes_after p = laid slot body r.first x.received p k.size starts ∙ ap (λ z. option_or z (carries part p)) (k.bytes p) ∙ sym (first-push e.parts part p)
 
   size-after : count ≡ length (slot ++ fresh x r body)
   size-after =

@@ -1,13 +1,14 @@
 -- One tick: a world that is told stays told.
 use Rattle.std.proofs.Common.{◌≡◌, ℕ, zero, suc, ◌-◌, max, Bool, true, false, cond, leb, List, [], ◌∷◌, map, length, Some, None, Option, sym, refl, ap, ◌∙◌}
 use Rattle.std.proofs.lemmas.List.{length-map}
+use Rattle.std.proofs.lemmas.Option.{none-some}
 use Rattle.session.specs.Sessions.{Live, World, row}
 use Rattle.session.specs.Rules.{is_expired}
 use Rattle.session.specs.Steps.{swept, Ticked}
 use Rattle.session.specs.declared.records.Settings.{Settings}
 use Rattle.history.specs.Ledger.{Entry, Ledger, struck, after_tick}
 use Rattle.history.specs.Law.{Keeps, Matched, Tells}
-use Rattle.history.proofs.Rows.{none-some, some_inj}
+use Rattle.history.proofs.Rows.{some_inj}
 use Rattle.history.proofs.Messages.{at_slot, kept-names}
 
 row-swept : (c : ℕ) (rs : List (Option Live)) (i : ℕ) → row (map (swept c) rs) i ≡ swept c (row rs i)

@@ -1,5 +1,6 @@
 -- The ledger: what a history of calls comes to. It is drawn from the settings, the calls' input and their numbers alone.
 use Rattle.std.specs.Prelude.{ℕ, zero, suc, ◌+◌, ◌-◌, max, Bool, true, false, cond, ◌||◌, List, [], ◌∷◌, ◌++◌, length, is_some, Some, None, Ok, Err, Option, Result, ◌==◌, nat_eq, nat_le}
+use Rattle.std.specs.Option.{option_or}
 use Rattle.std.specs.List.{slice_get}
 use Rattle.std.specs.Map.{update}
 use Rattle.std.specs.Str.{bytes_eq}
@@ -27,14 +28,10 @@ pub record Part : Type 0 where
 abbrev pub carries : Part → ℕ → Option ℕ
 carries q p = cond (nat_le q.from p) (slice_get q.bytes (p - q.from)) None
 
-abbrev pub or_else : {X : Type 0} → Option X → Option X → Option X
-or_else None y = y
-or_else (Some x) y = Some x
-
 -- the first byte that was carried to a place
 abbrev pub first_byte : List Part → ℕ → Option ℕ
 first_byte [] p = None
-first_byte (q ∷ qs) p = or_else (carries q p) (first_byte qs p)
+first_byte (q ∷ qs) p = option_or (carries q p) (first_byte qs p)
 
 -- no part carries a byte to this place or past it
 abbrev pub reach : List Part → ℕ

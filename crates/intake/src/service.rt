@@ -1,9 +1,10 @@
 // One connection served by a new intake over a new volume store.
-ghost use Rattle.std.specs.Prelude.{◌≤◌, length};
+ghost use Rattle.std.specs.Prelude.{◌≤◌};
 
-use anyhow::anyhow;
+use ack::LEAST_PAGE;
 use connection::{Serving, serve};
-use intake_core::{BadSetting, Intake, Notice, Reply, Verdict};
+use desk::settle;
+use intake_core::{Intake, Notice, Verdict};
 use session::Settings;
 use std::io::{Read, Write};
 use store::Store;
@@ -30,40 +31,36 @@ const SETTINGS: Settings = Settings {
     approver: false,
 };
 
-// Answers a notice with a yes, and gives the length of the acknowledgement. With the approver off there is none.
-fn approve<S: Store>(intake: &mut Intake<S>, notice: Option<Notice>, page: &mut [u8]) -> usize
-    requires { 1024 ≤ length page.old }
-    ensures { result ≤ length page.old }
+// Answers a notice with a yes; the acknowledgement's length. With the approver off there is none.
+fn approve<S: Store>(
+    intake: &mut Intake<S>,
+    notice: Option<Notice>,
+    page: &mut [u8; LEAST_PAGE],
+) -> usize
+    ensures { result ≤ 1024 }
 {
-    let Some(notice) = notice else {
-        return 0;
-    };
-    let Reply {
-        outcome: _,
-        used: _,
-        length,
-        notice: again,
-    } = intake.answer(notice, Verdict::Yes(b""), page);
-    match again {
-        None => length,
-        Some(_again) => unreachable(),
+    // two arms, since a notice cannot be let go with a closure
+    match notice {
+        Some(notice) => settle(intake, notice, Verdict::Yes(b""), page).length,
+        None => 0,
     }
 }
 
 // Serves all of the input, and writes the acknowledgements in order.
 fn answer<S: Store>(rt: &HostRuntime, intake: &mut Intake<S>, input: &[u8]) -> anyhow::Result<()> {
     let mut out = [0; OUT];
+    let mut page = [0; LEAST_PAGE];
     let mut left = input;
-    while left.len() > 0 {
+    while !left.is_empty() {
         let Serving {
             used,
             length,
             notice,
         } = serve(intake, left, &mut out);
-        let written = rt.stdout().write_all(&out[..length]);
-        let told = approve(intake, notice, &mut out);
-        written?;
-        rt.stdout().write_all(&out[..told])?;
+        // a notice is answered even where nothing more can be written
+        let told = approve(intake, notice, &mut page);
+        rt.stdout().write_all(&out[..length])?;
+        rt.stdout().write_all(&page[..told])?;
         left = &left[used..];
     }
     Ok(())
@@ -72,20 +69,10 @@ fn answer<S: Store>(rt: &HostRuntime, intake: &mut Intake<S>, input: &[u8]) -> a
 pub(crate) fn run(rt: &HostRuntime) -> anyhow::Result<()> {
     let mut input = Vec::new(rt.alloc());
     rt.stdin().take(MOST).read_to_end(&mut input)?;
-    let Ok(store) = VolumeStore::new(vec![in rt.alloc(); 0u8; REGION]?, BUNDLE, 0) else {
-        return Err(anyhow!("the region is too small"));
-    };
-    match Intake::new(store, SETTINGS) {
-        Ok(mut intake) => {
-            let answered = answer(rt, &mut intake, input.as_slice());
-            let _store = intake.into_store();
-            answered
-        }
-        Err(
-            BadSetting {
-                store: _store,
-                outcome: _,
-            },
-        ) => Err(anyhow!("a setting is broken")),
-    }
+    let region = vec![in rt.alloc(); 0u8; REGION]?;
+    let store = VolumeStore::new(region, BUNDLE, 0)?;
+    let mut intake = Intake::new(store, SETTINGS)?;
+    let answered = answer(rt, &mut intake, input.as_slice());
+    let _store = intake.into_store();
+    answered
 }

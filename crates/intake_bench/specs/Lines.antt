@@ -1,5 +1,5 @@
 -- What the lines tell of a round of messages.
-use Rattle.std.specs.Prelude.{◌≡◌, ℕ, zero, suc, ◌+◌, ◌<◌, ◌≤◌, cond, List, length, ◌==◌, slice_index, slice_index_or}
+use Rattle.std.specs.Prelude.{◌≡◌, ℕ, ◌<◌, ◌≤◌, List, length, count_by, take, ◌==◌, slice_index, slice_index_or}
 use Rattle.intake_bench.specs.declared.Line.{Line}
 
 abbrev pub blank : Line
@@ -15,11 +15,6 @@ pub record Told (n : ℕ) (line : Line) : Type 0 where
 abbrev pub Telling : List ℕ → ℕ → List Line → Type 0
 Telling lengths m lines = (i : ℕ) → i < m → i < length lines → Told (slice_index lengths i) (slice_index_or lines i blank)
 
--- how many of the first m lines have number 0
-abbrev pub zeros : List Line → ℕ → ℕ
-zeros lines zero = 0
-zeros lines (suc m) = zeros lines m + cond ((slice_index_or lines m blank).number == 0) 1 0
-
--- r is their number, where the lines reach so far
+-- r is how many of the first m lines have number 0, where the lines reach so far
 abbrev pub Counting : List Line → ℕ → ℕ → Type 0
-Counting lines m r = m ≤ length lines → r ≡ zeros lines m
+Counting lines m r = m ≤ length lines → r ≡ count_by (λ line. line.number == 0) (take m lines)

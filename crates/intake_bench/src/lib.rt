@@ -3,9 +3,11 @@
 #![tactic(auto)]
 
 ghost use Rattle.std.specs.Prelude.{◌≡◌, ◌*◌, ◌<◌, ◌≤◌, length, drop, slice_set};
-ghost use Rattle.intake_bench.specs.Lines.{Counting, Telling};
+ghost use Rattle.intake_bench.specs.Lines.{Counting, Telling, Told};
 
-use intake_core::{BadSetting, Intake, Notice, Reply, Verdict};
+use ack::LEAST_PAGE;
+use desk::settle;
+use intake_core::{Intake, Notice, Reply, Verdict};
 use page_store::PageStore;
 use session::Settings;
 use std::alloc::Global;
@@ -14,9 +16,6 @@ use volume_store::VolumeStore;
 
 // The bytes of a session's id.
 const ID: usize = 38;
-
-// The bytes of a page.
-const PAGE: usize = 1024;
 
 #[repr(C)]
 pub struct Plan {
@@ -44,14 +43,16 @@ pub struct Line {
     pub length: usize,
 }
 
-fn settings_of(plan: &Plan) -> Settings {
-    Settings {
-        site: plan.site,
-        first_serial: plan.first_serial,
-        maximum: plan.maximum,
-        uploads: plan.uploads,
-        overwriting: plan.overwriting,
-        approver: false,
+impl Plan {
+    fn settings(&self) -> Settings {
+        Settings {
+            site: self.site,
+            first_serial: self.first_serial,
+            maximum: self.maximum,
+            uploads: self.uploads,
+            overwriting: self.overwriting,
+            approver: false,
+        }
     }
 }
 
@@ -59,45 +60,32 @@ fn settings_of(plan: &Plan) -> Settings {
 fn part(bytes: &mut [u8], at: usize, n: usize) -> &mut [u8]
     ensures { length result.now ≤ n }
 {
-    let len = bytes.len();
-    if at <= len && n <= len - at {
-        &mut bytes[at..at + n]
-    } else {
-        &mut bytes[0..0]
-    }
+    bytes
+        .get_mut(at..)
+        .and_then(|rest| rest.get_mut(..n))
+        .unwrap_or(&mut [])
 }
 
 // The page for the acknowledgement of message `i`: its own where there are so many, else the first.
 fn page_at(pages: &mut [u8], i: usize) -> &mut [u8]
     ensures { length result.now ≤ 1024 }
 {
-    if i < pages.len() / PAGE {
-        part(pages, i * PAGE, PAGE)
-    } else {
-        part(pages, 0, PAGE)
+    let own = if i < pages.len() / LEAST_PAGE { i } else { 0 };
+    part(pages, own * LEAST_PAGE, LEAST_PAGE)
+}
+
+fn put_id(message: &mut [u8], at: usize, id: &[u8; ID]) {
+    let rest = message.get_mut(at..).unwrap_or(&mut []);
+    if let Some(place) = rest.first_chunk_mut() {
+        *place = *id;
     }
 }
 
-fn put_id(message: &mut [u8], at: usize, id: &Option<[u8; ID]>) {
-    if let Some(bytes) = id {
-        let place = part(message, at, ID);
-        if place.len() == ID {
-            place.copy_from_slice(bytes);
-        }
-    }
+fn id_in(page: &[u8], at: usize) -> Option<[u8; ID]> {
+    page.get(at..)?.first_chunk().copied()
 }
 
-fn id_in(page: &mut [u8], at: usize) -> Option<[u8; ID]> {
-    let mut id = [0; ID];
-    let place = part(page, at, ID);
-    if place.len() != ID {
-        return None;
-    }
-    id.copy_from_slice(place);
-    Some(id)
-}
-
-// Writes line `i`, if there is one.
+// Writes line `i`, if there is one; `get_mut` would say nothing of the lines after it.
 fn note(lines: &mut [Line], i: usize, line: Line)
     ensures { lines.new ≡ slice_set lines.old i line }
 {
@@ -106,25 +94,34 @@ fn note(lines: &mut [Line], i: usize, line: Line)
     }
 }
 
-// Spends a notice with a yes. With the approver never told there is none.
+// Spends a notice with a yes, if there is one: with the approver never told there is none.
 fn approve<S: Store>(intake: &mut Intake<S>, notice: Option<Notice>) {
-    let Some(notice) = notice else {
-        return;
-    };
-    let mut page = [0; PAGE];
-    let Reply {
-        outcome: _,
-        used: _,
-        length: _,
-        notice: again,
-    } = intake.answer(notice, Verdict::Yes(b""), &mut page);
-    match again {
-        None => {}
-        Some(_again) => unreachable(),
+    if let Some(notice) = notice {
+        settle(intake, notice, Verdict::Yes(b""), &mut [0; LEAST_PAGE]);
     }
 }
 
-// One round; how many messages came to number 0.
+// Sends one message, and gives its line.
+fn tell<S: Store>(intake: &mut Intake<S>, message: &[u8], page: &mut [u8]) -> Line
+    requires { length page.old ≤ 1024 }
+    ensures { Told (length message.now) result }
+{
+    let Reply {
+        outcome,
+        used,
+        length,
+        notice,
+    } = intake.message(message, page);
+    approve(intake, notice);
+    Line {
+        number: u64::from(outcome.report().number),
+        used,
+        length,
+    }
+}
+
+// One round; how many messages came to number 0. C's messages lie end to end, so that the lengths say where each one
+// begins, and its pages do too.
 fn send<S: Store>(
     intake: &mut Intake<S>,
     plan: &Plan,
@@ -141,34 +138,19 @@ fn send<S: Store>(
     let mut id = None;
     let mut at = 0usize;
     let mut done = 0u64;
-    for i in 0..lengths.len() {
-        let message = part(input, at, lengths[i]);
-        put_id(message, plan.id_at, &id);
-        let page = page_at(pages, i);
-        let Reply {
-            outcome,
-            used,
-            length,
-            notice,
-        } = intake.message(message, page);
-        approve(intake, notice);
-        let number = outcome.report().number as u64;
-        if number == 0 {
-            done += 1;
-            if i == 0 {
-                id = id_in(page, plan.told_at);
-            }
+    for (i, size) in lengths.iter().enumerate() {
+        let message = part(input, at, *size);
+        if let Some(id) = &id {
+            put_id(message, plan.id_at, id);
         }
-        note(
-            lines,
-            i,
-            Line {
-                number,
-                used,
-                length,
-            },
-        );
-        at = at.wrapping_add(lengths[i]);
+        let page = page_at(pages, i);
+        let line = tell(intake, message, page);
+        if i == 0 && line.number == 0 {
+            id = id_in(page, plan.told_at);
+        }
+        done += u64::from(line.number == 0);
+        note(lines, i, line);
+        at = at.wrapping_add(*size);
     }
     done
 }
@@ -187,14 +169,8 @@ fn send_all<S: Store + Drop>(
     ensures told { 0 < result → Telling lengths.now (length lengths.now) lines.new }
     ensures counted { 0 < result → plan.now.rounds ≡ 1 → Counting lines.new (length lengths.now) result }
 {
-    let mut intake = match Intake::new(store, settings_of(plan)) {
-        Ok(intake) => intake,
-        Err(
-            BadSetting {
-                store: _store,
-                outcome: _,
-            },
-        ) => return 0,
+    let Ok(mut intake) = Intake::new(store, plan.settings()) else {
+        return 0;
     };
     let mut done = 0u64;
     for _round in 0..plan.rounds {
@@ -205,7 +181,8 @@ fn send_all<S: Store + Drop>(
 }
 
 // The rounds over a page store: how many messages came to number 0, or 0 where no intake could be made. The lines tell
-// of the messages of the last round, as far as they reach; lines behind those stay.
+// of the messages of the last round, as far as they reach; lines behind those stay. C passes a pointer for each part, and
+// its names say which store is meant, so the parameters and the clauses stand here twice.
 #[unsafe(no_mangle)]
 pub extern "C" fn intake_bench_pages(
     heap: Global,
@@ -223,10 +200,10 @@ pub extern "C" fn intake_bench_pages(
     let Ok(region) = Vec::from_elem(heap, 0u8, plan.region) else {
         return 0;
     };
-    match PageStore::new(region) {
-        Ok(store) => send_all(store, plan, input, lengths, pages, lines),
-        Err(_) => 0,
-    }
+    let Ok(store) = PageStore::new(region) else {
+        return 0;
+    };
+    send_all(store, plan, input, lengths, pages, lines)
 }
 
 // The same over a volume store.
@@ -247,8 +224,8 @@ pub extern "C" fn intake_bench_volume(
     let Ok(region) = Vec::from_elem(heap, 0u8, plan.region) else {
         return 0;
     };
-    match VolumeStore::new(region, plan.capacity, 0) {
-        Ok(store) => send_all(store, plan, input, lengths, pages, lines),
-        Err(_) => 0,
-    }
+    let Ok(store) = VolumeStore::new(region, plan.capacity, 0) else {
+        return 0;
+    };
+    send_all(store, plan, input, lengths, pages, lines)
 }

@@ -1,7 +1,9 @@
 // The cases: each story is told to a new intake over a new store.
 use crate::requests::{PATH, Part, close, create, fragment, ping};
 use crate::shown::{show, show_lines};
-use anyhow::anyhow;
+use ack::LEAST_PAGE;
+use anyhow::{Context, anyhow};
+use desk::{Settled, settle};
 use intake_core::{BadSetting, Intake, Notice, Reply, Verdict};
 use page_store::PageStore;
 use session::Settings;
@@ -11,10 +13,11 @@ use store::Store;
 // The bytes of the store's region: 256 pages.
 const REGION: usize = 1048576;
 
-const PAGE: usize = 1024;
-
 // The approver's own code for a no.
 const CODE: u32 = 0x80004005;
+
+// The field that tells how many bytes were received.
+const RECEIVED: &str = "BITS-Received-Content-Range";
 
 const TWENTY: Part = Part {
     first: 0,
@@ -23,169 +26,103 @@ const TWENTY: Part = Part {
     total: 20,
 };
 
-#[derive(Clone, Copy)]
-enum Story {
-    Sizes,
-    Crowd,
-    LastSerial,
-    Spent,
-    TenthSerial,
-    Cut,
-    Asked,
-    Aged,
+// What most stories run under.
+const USUAL: Settings = Settings {
+    site: 1,
+    first_serial: 1,
+    maximum: 100000,
+    uploads: true,
+    overwriting: false,
+    approver: false,
+};
+
+// An intake, and where its calls are shown.
+struct Case<'a, S: Store> {
+    rt: &'a HostRuntime,
+    intake: Intake<S>,
 }
 
-fn settings_of(story: Story) -> Settings {
-    Settings {
-        site: 1,
-        first_serial: match story {
-            Story::LastSerial => 0xfffffffffffffffe,
-            Story::Spent => 0xffffffffffffffff,
-            Story::TenthSerial => 10,
-            _ => 1,
-        },
-        maximum: 100000,
-        uploads: true,
-        overwriting: false,
-        approver: match story {
-            Story::Asked => true,
-            _ => false,
-        },
-    }
-}
-
-// Answers a notice that nothing is to be made of.
-fn spend<S: Store>(intake: &mut Intake<S>, notice: Option<Notice>) {
-    let Some(notice) = notice else {
-        return;
-    };
-    let mut page = [0; PAGE];
-    let Reply {
-        outcome: _,
-        used: _,
-        length: _,
-        notice: again,
-    } = intake.answer(notice, Verdict::Yes(b""), &mut page);
-    match again {
-        None => {}
-        Some(_again) => unreachable(),
-    }
-}
-
-// Sends a message from which no notice is awaited, and shows the lines of its acknowledgement that begin with `start`.
-// The rest of the page is zeros.
-fn send_for<S: Store>(
-    rt: &HostRuntime,
-    intake: &mut Intake<S>,
-    what: &str,
-    input: &[u8],
-    start: &str,
-) -> anyhow::Result<()> {
-    let mut page = [0; PAGE];
-    let Reply {
-        outcome,
-        used,
-        length,
-        notice,
-    } = intake.message(input, &mut page);
-    spend(intake, notice);
-    show(rt, what, outcome, used, length)?;
-    show_lines(rt, &page, start)
-}
-
-fn send<S: Store>(
-    rt: &HostRuntime,
-    intake: &mut Intake<S>,
-    what: &str,
-    input: &[u8],
-) -> anyhow::Result<()> {
-    send_for(rt, intake, what, input, "BITS-Received-Content-Range")
-}
-
-// Sends a fragment that makes its bundle whole, and gives the notice that it hands out.
-fn hand_in<S: Store>(
-    rt: &HostRuntime,
-    intake: &mut Intake<S>,
-    input: &[u8],
-) -> anyhow::Result<Notice> {
-    let mut page = [0; PAGE];
-    let Reply {
-        outcome,
-        used,
-        length,
-        notice,
-    } = intake.message(input, &mut page);
-    let shown = show(
-        rt,
-        "a whole bundle, for the approver",
-        outcome,
-        used,
-        length,
-    );
-    match (notice, shown) {
-        (Some(notice), Ok(())) => Ok(notice),
-        (notice, _) => {
-            spend(intake, notice);
-            Err(anyhow!("no notice"))
+impl<S: Store> Case<'_, S> {
+    // Answers a notice that nothing is to be made of, if there is one: one call of `settle`.
+    fn spend(&mut self, notice: Option<Notice>) {
+        if let Some(notice) = notice {
+            settle(
+                &mut self.intake,
+                notice,
+                Verdict::Yes(b""),
+                &mut [0; LEAST_PAGE],
+            );
         }
     }
-}
 
-// A yes with an address, or a no.
-fn verdict_of(address: Option<&[u8]>) -> Verdict<'_> {
-    match address {
-        Some(bytes) => Verdict::Yes(bytes),
-        None => Verdict::No(CODE),
-    }
-}
-
-// The approver's answer, and what its acknowledgement says of the bytes received, the reply address and the error.
-fn rule<S: Store>(
-    rt: &HostRuntime,
-    intake: &mut Intake<S>,
-    what: &str,
-    notice: Notice,
-    address: Option<&[u8]>,
-) -> anyhow::Result<()> {
-    let mut page = [0; PAGE];
-    let Reply {
-        outcome,
-        used,
-        length,
-        notice: again,
-    } = intake.answer(notice, verdict_of(address), &mut page);
-    spend(intake, again);
-    show(rt, what, outcome, used, length)?;
-    show_lines(rt, &page, "BITS-Re")?;
-    show_lines(rt, &page, "BITS-Error")
-}
-
-// An answer with a page of 1,023 bytes: the notice is handed back.
-fn rule_short<S: Store>(
-    rt: &HostRuntime,
-    intake: &mut Intake<S>,
-    notice: Notice,
-) -> anyhow::Result<Notice> {
-    let mut page = [0; 1023];
-    let Reply {
-        outcome,
-        used,
-        length,
-        notice: again,
-    } = intake.answer(notice, Verdict::Yes(b""), &mut page);
-    let shown = show(rt, "a yes, page of 1,023 bytes", outcome, used, length);
-    match (again, shown) {
-        (Some(notice), Ok(())) => Ok(notice),
-        (notice, _) => {
-            spend(intake, notice);
-            Err(anyhow!("the notice is lost"))
+    // Shows what a call came to, and gives its notice.
+    fn show(&mut self, what: &str, reply: Reply) -> anyhow::Result<Option<Notice>> {
+        let Reply {
+            outcome,
+            used,
+            length,
+            notice,
+        } = reply;
+        if let Err(error) = show(self.rt, what, outcome, used, length) {
+            self.spend(notice);
+            return Err(error.into());
         }
+        Ok(notice)
+    }
+
+    // Sends a message from which no notice is awaited, and shows the lines of its acknowledgement that begin with
+    // `start`. The rest of the page is zeros.
+    fn send_on(
+        &mut self,
+        what: &str,
+        input: &[u8],
+        page: &mut [u8],
+        start: &str,
+    ) -> anyhow::Result<()> {
+        let reply = self.intake.message(input, page);
+        let notice = self.show(what, reply)?;
+        self.spend(notice);
+        show_lines(self.rt, page, start)
+    }
+
+    fn send(&mut self, what: &str, input: &[u8]) -> anyhow::Result<()> {
+        self.send_on(what, input, &mut [0; LEAST_PAGE], RECEIVED)
+    }
+
+    // Sends a fragment that makes its bundle whole, and gives the notice that it hands out.
+    fn hand_in(&mut self, input: &[u8]) -> anyhow::Result<Notice> {
+        let reply = self.intake.message(input, &mut [0; LEAST_PAGE]);
+        self.show("a whole bundle, for the approver", reply)?
+            .context("no notice")
+    }
+
+    // The approver's answer, and what its acknowledgement says of the bytes received, the reply address and the error.
+    fn rule(&mut self, what: &str, notice: Notice, verdict: Verdict<'_>) -> anyhow::Result<()> {
+        let mut page = [0; LEAST_PAGE];
+        let Settled { outcome, length } = settle(&mut self.intake, notice, verdict, &mut page);
+        show(self.rt, what, outcome, 0, length)?;
+        show_lines(self.rt, &page, "BITS-Re")?;
+        show_lines(self.rt, &page, "BITS-Error")
+    }
+
+    // An answer with a page of 1,023 bytes: the notice is handed back.
+    fn rule_short(&mut self, notice: Notice) -> anyhow::Result<Notice> {
+        let mut page = [0; LEAST_PAGE - 1];
+        let reply = self.intake.answer(notice, Verdict::Yes(b""), &mut page);
+        self.show("a yes, page of 1,023 bytes", reply)?
+            .context("the notice is lost")
+    }
+
+    fn tick(&mut self, reading: u64) -> anyhow::Result<()> {
+        let ended = self.intake.tick(reading);
+        println!(self.rt; "a tick to {reading}: sessions ended {ended}")?;
+        Ok(())
     }
 }
 
 // The limits of fragments, values and pages.
-fn sizes<S: Store>(rt: &HostRuntime, intake: &mut Intake<S>) -> anyhow::Result<()> {
-    let heap = rt.alloc();
+fn sizes<S: Store>(case: &mut Case<'_, S>) -> anyhow::Result<()> {
+    let heap = case.rt.alloc();
     let most = Part {
         first: 0,
         announced: 32768,
@@ -198,90 +135,47 @@ fn sizes<S: Store>(rt: &HostRuntime, intake: &mut Intake<S>) -> anyhow::Result<(
         sent: 32769,
         total: 100000,
     };
-    send(
-        rt,
-        intake,
-        "a value of 4,096 bytes",
-        ping(heap, 4096)?.as_slice(),
-    )?;
-    send(
-        rt,
-        intake,
-        "a value of 4,097 bytes",
-        ping(heap, 4097)?.as_slice(),
-    )?;
-    send(rt, intake, "a creation", create(heap, PATH)?.as_slice())?;
-    send(
-        rt,
-        intake,
-        "a fragment of 32,768 bytes",
-        fragment(heap, most)?.as_slice(),
-    )?;
-    send(
-        rt,
-        intake,
-        "a fragment of 32,769 bytes",
-        fragment(heap, over)?.as_slice(),
-    )?;
-    send_short(rt, intake, ping(heap, 1)?.as_slice())
-}
-
-fn send_short<S: Store>(
-    rt: &HostRuntime,
-    intake: &mut Intake<S>,
-    input: &[u8],
-) -> anyhow::Result<()> {
-    let mut page = [0; 1023];
-    let Reply {
-        outcome,
-        used,
-        length,
-        notice,
-    } = intake.message(input, &mut page);
-    spend(intake, notice);
-    show(rt, "a ping, page of 1,023 bytes", outcome, used, length)?;
-    Ok(())
+    case.send("a value of 4,096 bytes", &ping(heap, 4096)?)?;
+    case.send("a value of 4,097 bytes", &ping(heap, 4097)?)?;
+    case.send("a creation", &create(heap, PATH)?)?;
+    case.send("a fragment of 32,768 bytes", &fragment(heap, most)?)?;
+    case.send("a fragment of 32,769 bytes", &fragment(heap, over)?)?;
+    let mut short = [0; LEAST_PAGE - 1];
+    case.send_on(
+        "a ping, page of 1,023 bytes",
+        &ping(heap, 1)?,
+        &mut short,
+        RECEIVED,
+    )
 }
 
 // 16 sessions, and one more.
-fn crowd<S: Store>(rt: &HostRuntime, intake: &mut Intake<S>) -> anyhow::Result<()> {
-    let heap = rt.alloc();
+fn crowd<S: Store>(case: &mut Case<'_, S>) -> anyhow::Result<()> {
+    let heap = case.rt.alloc();
     for i in 1..18u8 {
         let path = format!(in heap; "/scripts/{i}.zip")?;
         let what = format!(in heap; "creation {i}")?;
-        send(
-            rt,
-            intake,
-            what.as_str(),
-            create(heap, path.as_str())?.as_slice(),
-        )?;
+        case.send(what.as_str(), &create(heap, path.as_str())?)?;
     }
     Ok(())
 }
 
 // Creations, and the ids that they give.
-fn serials<S: Store>(rt: &HostRuntime, intake: &mut Intake<S>) -> anyhow::Result<()> {
-    let heap = rt.alloc();
-    let id = "BITS-Session-Id";
-    send_for(
-        rt,
-        intake,
-        "a creation",
-        create(heap, "/scripts/a.zip")?.as_slice(),
-        id,
-    )?;
-    send_for(
-        rt,
-        intake,
-        "another creation",
-        create(heap, "/scripts/b.zip")?.as_slice(),
-        id,
-    )
+fn serials<S: Store>(case: &mut Case<'_, S>) -> anyhow::Result<()> {
+    let heap = case.rt.alloc();
+    for (what, path) in [
+        ("a creation", "/scripts/a.zip"),
+        ("another creation", "/scripts/b.zip"),
+    ] {
+        let input = create(heap, path)?;
+        case.send_on(what, &input, &mut [0; LEAST_PAGE], "BITS-Session-Id")?;
+    }
+    Ok(())
 }
 
 // A fragment of 10 bytes of which 4 came, then the 16 that follow those.
-fn cut<S: Store>(rt: &HostRuntime, intake: &mut Intake<S>) -> anyhow::Result<()> {
-    let heap = rt.alloc();
+fn cut<S: Store>(case: &mut Case<'_, S>) -> anyhow::Result<()> {
+    let heap = case.rt.alloc();
     let torn = Part {
         first: 0,
         announced: 10,
@@ -294,94 +188,56 @@ fn cut<S: Store>(rt: &HostRuntime, intake: &mut Intake<S>) -> anyhow::Result<()>
         sent: 16,
         total: 20,
     };
-    send(rt, intake, "a creation", create(heap, PATH)?.as_slice())?;
-    send(
-        rt,
-        intake,
+    case.send("a creation", &create(heap, PATH)?)?;
+    case.send(
         "a fragment of 10 bytes, cut after 4",
-        fragment(heap, torn)?.as_slice(),
+        &fragment(heap, torn)?,
     )?;
-    send(
-        rt,
-        intake,
-        "the 16 bytes behind those",
-        fragment(heap, rest)?.as_slice(),
-    )?;
-    send(rt, intake, "a close", close(heap)?.as_slice())
+    case.send("the 16 bytes behind those", &fragment(heap, rest)?)?;
+    case.send("a close", &close(heap)?)
 }
 
 // What the approver may say of one bundle.
-fn asked<S: Store>(rt: &HostRuntime, intake: &mut Intake<S>) -> anyhow::Result<()> {
-    let heap = rt.alloc();
-    send(rt, intake, "a creation", create(heap, PATH)?.as_slice())?;
+fn asked<S: Store>(case: &mut Case<'_, S>) -> anyhow::Result<()> {
+    let heap = case.rt.alloc();
+    case.send("a creation", &create(heap, PATH)?)?;
     let bundle = fragment(heap, TWENTY)?;
-    let notice = hand_in(rt, intake, bundle.as_slice())?;
-    let met = send(
-        rt,
-        intake,
-        "the same fragment at the approver",
-        bundle.as_slice(),
-    );
-    rule(
-        rt,
-        intake,
+    let notice = case.hand_in(&bundle)?;
+    let met = case.send("the same fragment at the approver", &bundle);
+    case.rule(
         "a yes, address of 257 bytes",
         notice,
-        Some(&[b'x'; 257]),
+        Verdict::Yes(&[b'x'; 257]),
     )?;
     met?;
-    let notice = hand_in(rt, intake, bundle.as_slice())?;
-    rule(rt, intake, "a no", notice, None)?;
-    let notice = hand_in(rt, intake, bundle.as_slice())?;
-    let notice = rule_short(rt, intake, notice)?;
-    rule(
-        rt,
-        intake,
+    let notice = case.hand_in(&bundle)?;
+    case.rule("a no", notice, Verdict::No(CODE))?;
+    let notice = case.hand_in(&bundle)?;
+    let notice = case.rule_short(notice)?;
+    case.rule(
         "a yes, address of 256 bytes",
         notice,
-        Some(&[b'x'; 256]),
+        Verdict::Yes(&[b'x'; 256]),
     )?;
-    send(rt, intake, "a close", close(heap)?.as_slice())
-}
-
-fn tick<S: Store>(rt: &HostRuntime, intake: &mut Intake<S>, reading: u64) -> anyhow::Result<()> {
-    let ended = intake.tick(reading);
-    println!(rt; "a tick to {reading}: sessions ended {ended}")?;
-    Ok(())
+    case.send("a close", &close(heap)?)
 }
 
 // A session is as old as its last message of number 0.
-fn aged<S: Store>(rt: &HostRuntime, intake: &mut Intake<S>) -> anyhow::Result<()> {
-    let heap = rt.alloc();
+fn aged<S: Store>(case: &mut Case<'_, S>) -> anyhow::Result<()> {
+    let heap = case.rt.alloc();
     let bundle = fragment(heap, TWENTY)?;
     let torn = fragment(heap, Part { sent: 4, ..TWENTY })?;
-    send(rt, intake, "a creation", create(heap, PATH)?.as_slice())?;
-    tick(rt, intake, 1000)?;
-    send(rt, intake, "a fragment", bundle.as_slice())?;
-    tick(rt, intake, 1000 + 1209599)?;
-    send(rt, intake, "a fragment, cut", torn.as_slice())?;
-    tick(rt, intake, 1000 + 1209600)?;
-    send(rt, intake, "a fragment", bundle.as_slice())
-}
-
-fn tell<S: Store>(rt: &HostRuntime, intake: &mut Intake<S>, story: Story) -> anyhow::Result<()> {
-    match story {
-        Story::Sizes => sizes(rt, intake),
-        Story::Crowd => crowd(rt, intake),
-        Story::LastSerial => serials(rt, intake),
-        Story::Spent => serials(rt, intake),
-        Story::TenthSerial => serials(rt, intake),
-        Story::Cut => cut(rt, intake),
-        Story::Asked => asked(rt, intake),
-        Story::Aged => aged(rt, intake),
-    }
+    case.send("a creation", &create(heap, PATH)?)?;
+    case.tick(1000)?;
+    case.send("a fragment", &bundle)?;
+    case.tick(1000 + 1209599)?;
+    case.send("a fragment, cut", &torn)?;
+    case.tick(1000 + 1209600)?;
+    case.send("a fragment", &bundle)
 }
 
 fn new_store(rt: &HostRuntime) -> anyhow::Result<PageStore> {
-    match PageStore::new(vec![in rt.alloc(); 0u8; REGION]?) {
-        Ok(store) => Ok(store),
-        Err(_) => Err(anyhow!("no page store")),
-    }
+    Ok(PageStore::new(vec![in rt.alloc(); 0u8; REGION]?)?)
 }
 
 // What stands under the path of all requests.
@@ -396,18 +252,19 @@ fn show_published<S: Store>(rt: &HostRuntime, store: &S) -> anyhow::Result<()> {
     Ok(())
 }
 
-fn run_story(rt: &HostRuntime, title: &str, story: Story) -> anyhow::Result<()> {
+fn run_story<F: FnOnce(&mut Case<'_, PageStore>) -> anyhow::Result<()>>(
+    rt: &HostRuntime,
+    title: &str,
+    settings: Settings,
+    story: F,
+) -> anyhow::Result<()>
+    requires { F.IsAlwaysCallable story }
+{
     println!(rt; "{title}")?;
-    let mut intake = match Intake::new(new_store(rt)?, settings_of(story)) {
-        Ok(intake) => intake,
-        Err(
-            BadSetting {
-                store: _store,
-                outcome: _,
-            },
-        ) => return Err(anyhow!("a setting is broken")),
-    };
-    let told = tell(rt, &mut intake, story);
+    let intake = Intake::new(new_store(rt)?, settings)?;
+    let mut case = Case { rt, intake };
+    let told = story(&mut case);
+    let Case { rt: _, intake } = case;
     let store = intake.into_store();
     told?;
     show_published(rt, &store)?;
@@ -420,7 +277,7 @@ fn run_broken(rt: &HostRuntime) -> anyhow::Result<()> {
     println!(rt; "a broken setting")?;
     let settings = Settings {
         maximum: 0,
-        ..settings_of(Story::Sizes)
+        ..USUAL
     };
     match Intake::new(new_store(rt)?, settings) {
         Ok(intake) => {
@@ -435,14 +292,30 @@ fn run_broken(rt: &HostRuntime) -> anyhow::Result<()> {
     }
 }
 
+fn from_serial(first_serial: u64) -> Settings {
+    Settings {
+        first_serial,
+        ..USUAL
+    }
+}
+
 pub(crate) fn run(rt: &HostRuntime) -> anyhow::Result<()> {
-    run_story(rt, "sizes", Story::Sizes)?;
-    run_story(rt, "too many sessions", Story::Crowd)?;
-    run_story(rt, "first serial 10", Story::TenthSerial)?;
-    run_story(rt, "first serial 2^64 - 2", Story::LastSerial)?;
-    run_story(rt, "first serial 2^64 - 1", Story::Spent)?;
-    run_story(rt, "a cut fragment", Story::Cut)?;
-    run_story(rt, "the approver", Story::Asked)?;
-    run_story(rt, "14 days", Story::Aged)?;
+    let with_approver = Settings {
+        approver: true,
+        ..USUAL
+    };
+    run_story(rt, "sizes", USUAL, sizes)?;
+    run_story(rt, "too many sessions", USUAL, crowd)?;
+    run_story(rt, "first serial 10", from_serial(10), serials)?;
+    run_story(
+        rt,
+        "first serial 2^64 - 2",
+        from_serial(u64::MAX - 1),
+        serials,
+    )?;
+    run_story(rt, "first serial 2^64 - 1", from_serial(u64::MAX), serials)?;
+    run_story(rt, "a cut fragment", USUAL, cut)?;
+    run_story(rt, "the approver", with_approver, asked)?;
+    run_story(rt, "14 days", USUAL, aged)?;
     run_broken(rt)
 }

@@ -1,8 +1,8 @@
 -- What a request that was carried out, or refused, comes to.
-use Rattle.std.proofs.Common.{◌≡◌, ℕ, zero, suc, ◌<◌, Bool, true, false, cond, not, ◌&&◌, eqb, ◌⊎◌, List, [], ◌∷◌, ◌++◌, length, set, is_some, Some, None, Ok, Err, Option, Result, sym, refl, ap, ◌∙◌, subst, inl, inr, arith, eqb-true}
+use Rattle.std.proofs.Common.{◌≡◌, ℕ, zero, suc, ◌<◌, Bool, true, false, cond, not, ◌&&◌, eqb, ◌⊎◌, List, [], ◌∷◌, ◌++◌, length, set, is_some, Some, None, Ok, Err, Option, Result, sym, refl, ap, ◌∙◌, subst, inl, inr, arith, append-nil, eqb-true}
 use Rattle.std.specs.Str.{bytes_eq}
 use Rattle.std.proofs.lemmas.List.{get_or-set_same}
-use Rattle.std.proofs.lemmas.Bool.{true≢false}
+use Rattle.std.proofs.lemmas.Bool.{and_parts, true≢false}
 use Rattle.ack.specs.Told.{ack_of, answered, handed_over}
 use Rattle.ack.specs.declared.told.Call.{Call}
 use Rattle.ack.specs.declared.told.Call.TheVariants as call
@@ -25,7 +25,7 @@ use Rattle.session.specs.Steps.{Done}
 use Rattle.session.specs.Told.{found_in, id_in, is_away_now, new_at, newly_away, request_ack, row_at}
 use Rattle.session.specs.declared.records.Settings.{Settings}
 use Rattle.history.proofs.Rows.{passes, row_inside}
-use Rattle.intake_core.specs.Worlds.{Acting, Changed, Created, Ends, Shows, Visited, is_refusal, live_plan, notice_for, noticed, outcome_in, row_in}
+use Rattle.intake_core.specs.Worlds.{Acting, Changed, Created, Shows, Visited, is_refusal, live_plan, notice_for, noticed, outcome_in, row_in}
 use Rattle.intake_core.specs.declared.faults.Refused.{Refused}
 use Rattle.intake_core.specs.declared.messages.Acted.{Acted}
 
@@ -56,13 +56,9 @@ pub newly-none : (xs : List (Option Live)) → newly_away xs xs ≡ []
 newly-none [] = refl
 newly-none (x ∷ xs) = (λ k. new-same x k ++ newly-none xs k)
 
-append-none : (xs : List ℕ) → xs ++ [] ≡ xs
-append-none [] = refl
-append-none (x ∷ xs) = ap (λ l. x ∷ l) (append-none xs)
-
 pub newly-set : (xs : List (Option Live)) (i : ℕ) (y : Option Live) → i < length xs → newly_away xs (set xs i y) ≡ new_at (row xs i) y
 newly-set [] i y lt = absurd (omega arith)
-newly-set (x ∷ xs) zero y lt = ap (λ l. new_at x y ++ l) (newly-none xs) ∙ append-none (new_at x y)
+newly-set (x ∷ xs) zero y lt = ap (λ l. new_at x y ++ l) (newly-none xs) ∙ append-nil (new_at x y)
 newly-set (x ∷ xs) (suc i) y lt = ap (λ l. l ++ newly_away xs (set xs i y)) (new-same x) ∙ newly-set xs i y (omega arith)
 
 -- the plan of a request that a live session is asked for
@@ -75,10 +71,6 @@ module _ (sets : Settings) (w : World) (q : Request) (id : SessionId) (on : sets
       ∙ ap (λ t. cond t (action_plan sets w q a) (refuse UploadsOff)) on
       ∙ is ∙ ap (λ b. with_row w (found sets w id q.path) (live_plan sets w q b)) (sym e)
 
-first_of : (x y : Bool) → (x && y) ≡ true → x ≡ true
-first_of true y e = refl
-first_of false y e = absurd (true≢false (sym e))
-
 -- a row that is found has the session's serial
 serial-of : (sets : Settings) (w : World) (id : SessionId) (path : List ℕ) (i : ℕ) (x : Live) → found sets w id path ≡ Some i → row w.rows i ≡ Some x → x.serial ≡ id.serial
 serial-of sets w id path i x e here = at (eqb id.site sets.site) e
@@ -86,7 +78,7 @@ serial-of sets w id path i x e here = at (eqb id.site sets.site) e
     at : (b : Bool) → cond b (index_of (is_of id.serial path) w.rows) None ≡ Some i → x.serial ≡ id.serial
     at true h =
         let p = (passes (is_of id.serial path) w.rows i h).1 in
-        eqb-true x.serial id.serial (first_of (eqb x.serial id.serial) (bytes_eq x.path path) (sym (ap (is_of id.serial path) here) ∙ p))
+        eqb-true x.serial id.serial (and_parts (eqb x.serial id.serial) (bytes_eq x.path path) (sym (ap (is_of id.serial path) here) ∙ p)).0
     at false h = absurd (let z : ◌≡◌ {A = ℕ} 0 1 = cc in omega arith)
 
 not-away : (sets : Settings) (x : Live) (r : Range) (at n room : ℕ) → fragment_fault sets x r at n room ≡ None → is_away x.phase ≡ false
@@ -148,6 +140,21 @@ row-of : (v : World) (n : Option ℕ) → row_in v.rows n ≡ row_at v n
 row-of v None = refl
 row-of v (Some i) = refl
 
+-- the range of a fragment, and its line
+abbrev pub range_in : Action → Range
+range_in (Create shared) = record { first = 0; last = 0; total = 0 }
+range_in Ping = record { first = 0; last = 0; total = 0 }
+range_in (Fragment id r at) = r
+range_in (Close id) = record { first = 0; last = 0; total = 0 }
+range_in (Cancel id) = record { first = 0; last = 0; total = 0 }
+
+abbrev pub line_in : Action → ℕ
+line_in (Create shared) = 0
+line_in Ping = 0
+line_in (Fragment id r at) = at
+line_in (Close id) = 0
+line_in (Cancel id) = 0
+
 -- a fragment
 module _ {S : Type 0} (made : S → Change → S → Type 0) (sets : Settings) (w : World) (q : Request) (id : SessionId) (r : Range) (at : ℕ) (s : S) (v : World) (t : S)
     (on : sets.uploads ≡ true) (kind : q.action ≡ Fragment id r at) where
@@ -187,7 +194,10 @@ freed w v i inside e = sym (newly-set w.rows i None inside) ∙ ap (newly_away w
 same_rows : (w v : World) → v ≡ w → Silences w v
 same_rows w v e = sym (newly-none w.rows) ∙ ap (newly_away w.rows) (sym (ap (λ u. u.rows) e))
 
--- a close or a cancellation
+-- a close or a cancellation, and what is told of it
+abbrev Ends : SessionId → Action → Call → Type 0
+Ends id a c = ((a ≡ Close id) × (c ≡ call.Close id)) ⊎ ((a ≡ Cancel id) × (c ≡ call.Cancel id))
+
 module _ (sets : Settings) (w v : World) (q : Request) (id : SessionId) where
   silent-close : (i : ℕ) (x : Live) (f : Option Outcome) → row w.rows i ≡ Some x → Done sets w q (unless f (close i x)) v → Silences w v
   silent-close i x (Some o) here done = same_rows w v done
@@ -325,9 +335,9 @@ module _ {S : Type 0} (made : S → Change → S → Type 0) (sets : Settings) (
         newly = ap noticed none ∙ silent-create r h;
       }
 
-pub is-ping : (a : Action) → is_ping a ≡ true → a ≡ Ping
-is-ping (Create shared) e = absurd (true≢false (sym e))
-is-ping Ping e = refl
-is-ping (Fragment id r at) e = absurd (true≢false (sym e))
-is-ping (Close id) e = absurd (true≢false (sym e))
-is-ping (Cancel id) e = absurd (true≢false (sym e))
+pub not-ping : (a : Action) → (a ≡ Ping → ⊥) → is_ping a ≡ false
+not-ping (Create shared) h = refl
+not-ping Ping h = absurd (h refl)
+not-ping (Fragment id r at) h = refl
+not-ping (Close id) h = refl
+not-ping (Cancel id) h = refl

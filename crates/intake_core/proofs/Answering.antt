@@ -1,5 +1,5 @@
 -- What an answer does to the table and what is told of it.
-use Rattle.std.proofs.Common.{◌≡◌, ℕ, suc, ◌<◌, Bool, true, false, cond, ltb, List, [], ◌∷◌, map, length, get_or, set, Some, None, MatchBool, Option, sym, refl, ap, ◌∙◌, subst, arith, length-set}
+use Rattle.std.proofs.Common.{◌≡◌, ℕ, ◌<◌, true, false, cond, ltb, List, map, length, get_or, set, Some, None, Option, sym, refl, ap, ◌∙◌, subst, arith, length-set, ◌≤◌, le-ltb}
 use Rattle.std.specs.Option.{option_map}
 use Rattle.std.proofs.lemmas.List.{get_or-map, length-map, map-set}
 use Rattle.std.proofs.lemmas.Bool.{true≢false}
@@ -15,29 +15,27 @@ use Rattle.outcome.specs.declared.Outcome.TheVariants.{ShortPage}
 use Rattle.store.specs.Meaning.{Meaning}
 use Rattle.session.specs.Rules.{is_asked, ruled}
 use Rattle.session.specs.Sessions.{Live, World, index_of, phase_of, row, row_of}
-use Rattle.session.specs.Steps.{AnswerDone, AskedDone, Word, answer_outcome, asked_outcome, word_outcome, word_phase}
+use Rattle.session.specs.Steps.{Word, answer_outcome, asked_outcome, word_outcome, word_phase}
 use Rattle.session.specs.Told.{address_told, answer_ack, id_in, row_at, verdict_ack}
 use Rattle.session.specs.declared.records.Session.{Session}
 use Rattle.session.specs.declared.records.Settings.{Settings}
+use Rattle.history.proofs.Rows.{passes}
 use Rattle.intake_core.specs.Verdicts.{Answered}
 
 -- a row that holds a session
 abbrev Holds : List (Option Live) → ℕ → Type 0
 Holds xs i = (x : Live) × (row xs i ≡ Some x) × (i < length xs)
 
-holds_more : (y : Option Live) (xs : List (Option Live)) (k i : ℕ) → suc k ≡ i → Holds xs k → Holds (y ∷ xs) i
-holds_more y xs k i e (x, there, inside) = (x, ap (row (y ∷ xs)) (sym e) ∙ there, omega arith)
-
-asked-from : (serial : ℕ) (y : Option Live) (xs : List (Option Live)) (i : ℕ) (t : Bool) → is_asked serial y ≡ t → (o : Option ℕ) → ((k : ℕ) → o ≡ Some k → Holds xs k) → cond t (Some 0) (option_map suc o) ≡ Some i → Holds (y ∷ xs) i
-asked-from serial None xs i true f o more h = absurd (true≢false (sym f))
-asked-from serial (Some y) xs i true f o more h = let z : 0 ≡ i = cc in (y, ap (row (Some y ∷ xs)) (sym z), omega arith)
-asked-from serial y xs i false f None more h = absurd (let z : ◌≡◌ {A = ℕ} 0 1 = cc in omega arith)
-asked-from serial y xs i false f (Some k) more h = let z : suc k ≡ i = cc in holds_more y xs k i z (more k refl)
+asked-live : (serial : ℕ) (r : Option Live) → is_asked serial r ≡ true → (x : Live) × (r ≡ Some x)
+asked-live serial None e = absurd (true≢false (sym e))
+asked-live serial (Some x) e = (x, refl)
 
 -- the row that is found for a serial at the approver holds a session
 asked-there : (serial : ℕ) (xs : List (Option Live)) (i : ℕ) → index_of (is_asked serial) xs ≡ Some i → Holds xs i
-asked-there serial [] i e = absurd (let z : ◌≡◌ {A = ℕ} 0 1 = cc in omega arith)
-asked-there serial (x ∷ xs) i e = asked-from serial x xs i (is_asked serial x) refl (index_of (is_asked serial) xs) (asked-there serial xs) e
+asked-there serial xs i e =
+    let found = passes (is_asked serial) xs i e in
+    let live = asked-live serial (row xs i) found.1 in
+    (live.0, live.1, found.0)
 
 module _ (rs : List (Option Session)) (next clock : ℕ) (m : Meaning) (serial i : ℕ) (word : Word) (stage : Stage) (y : Option Session) (d e : Option Session) where
   abbrev before : World
@@ -76,15 +74,16 @@ told-live Silent sets serial found x a b = refl
 told-live Accepted sets serial found x a b = λ k. Some (record { refusal = None; opened = false; id = Some (id_in sets serial); received = a k; reply = b k })
 told-live (Refused refusal) sets serial found x a b = λ k. Some (record { refusal = Some refusal; opened = false; id = None; received = a k; reply = b k })
 
-module _ (sets : Settings) (w v : World) (n serial : ℕ) (word : Word) (o : Outcome) (found : Option Progress)
-    (long : ltb n 1024 ≡ false) (h : Answered w (index_of (is_asked serial) w.rows) word o found v) where
+-- the verdict was heard on the serial of the notice that was spent, with a page that is long enough
+module _ {sets now : Settings} {w v : World} {spent serial : ℕ} {word : Word} {o : Outcome} {found : Option Progress} (n : ℕ)
+    (long : 1024 ≤ n) (same : spent ≡ serial) (kept : now ≡ sets) (heard : Answered w (index_of (is_asked spent) w.rows) word o found v) where
+  is-long : ltb n 1024 ≡ false
+  is-long = le-ltb n 1024 long
+
   pub answer-number : o ≡ answer_outcome w n serial word
-  answer-number = h.number ∙ ap (λ t. cond t ShortPage (asked_outcome (index_of (is_asked serial) w.rows) word)) (sym long)
+  answer-number = heard.number ∙ (λ k. cond (sym is-long k) ShortPage (asked_outcome (index_of (is_asked (same k)) w.rows) word))
 
-  pub answer-done : AnswerDone w n serial word v
-  answer-done = subst (λ t. MatchBool t (v ≡ w) (AskedDone w (index_of (is_asked serial) w.rows) word v)) (sym long) h.done
-
-  pub answer-told : ack_of o (Answer (id_in sets serial) found) ≡ answer_ack sets w n serial word v
+  pub answer-told : ack_of o (Answer (id_in now spent) found) ≡ answer_ack sets w n serial word v
   answer-told =
-      told-live (report_of o).answer sets serial found (row_at v (index_of (is_asked serial) w.rows)) h.received h.reply
-      ∙ ap (λ q. verdict_ack (report_of q).answer sets serial (row_at v (index_of (is_asked serial) w.rows))) answer-number
+      (λ k. ack_of o (Answer (id_in (kept k) spent) found)) ∙ told-live (report_of o).answer sets spent found (row_at v (index_of (is_asked spent) w.rows)) heard.received heard.reply
+      ∙ (λ k. verdict_ack (report_of (answer-number k)).answer sets (same k) (row_at v (index_of (is_asked (same k)) w.rows)))

@@ -5,5 +5,4 @@ pub mod Sweeping
 pub mod Taking
 pub mod Visiting
 pub mod Acting
-pub mod Reading
 pub mod Messaging

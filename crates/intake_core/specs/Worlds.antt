@@ -1,11 +1,8 @@
 -- The world that an intake stands for, and what its calls do to it and to its store.
-use Rattle.std.specs.Prelude.{◌≡◌, ℕ, zero, suc, ◌+◌, Bool, true, false, cond, ◌&&◌, ◌⊎◌, List, [], ◌∷◌, ◌++◌, map, length, Some, None, Ok, Err, Option, Result, ◌==◌}
+use Rattle.std.specs.Prelude.{◌≡◌, ℕ, zero, suc, ◌+◌, Bool, true, false, cond, ◌&&◌, List, [], ◌∷◌, ◌++◌, map, length, Some, None, Ok, Err, Option, Result, ◌==◌}
 use Rattle.std.specs.Option.{option_map}
 use Rattle.ack.specs.Told.{ack_of, handed_over, received_of, reply_of}
-use Rattle.ack.specs.declared.told.Call.{Call}
-use Rattle.ack.specs.declared.told.Call.TheVariants as told
 use Rattle.ack.specs.declared.told.Progress.{Progress}
-use Rattle.ids.specs.declared.SessionId.{SessionId}
 use Rattle.outcome.specs.Outcomes.{report_of}
 use Rattle.outcome.specs.declared.Outcome.{Outcome}
 use Rattle.outcome.specs.declared.Outcome.TheVariants.{Done as Finished, NoSession}
@@ -136,13 +133,6 @@ is_done o = (report_of o).number == 0
 abbrev pub notice_for : Result Outcome Refused → Bool → ℕ → List ℕ
 notice_for (Ok o) away serial = cond (is_done o && away) (serial ∷ []) []
 notice_for (Err e) away serial = []
-
-abbrev pub IsFragmentOf : SessionId → Action → Type 0
-IsFragmentOf id a = (r : Range) × (at : ℕ) × (a ≡ Fragment id r at)
-
--- a close or a cancellation, and what is told of it
-abbrev pub Ends : SessionId → Action → Call → Type 0
-Ends id a c = ((a ≡ Close id) × (c ≡ told.Close id)) ⊎ ((a ≡ Cancel id) × (c ≡ told.Cancel id))
 
 -- a request was answered by its plan
 pub record Acting {S : Type 0} (made : S → Change → S → Type 0) (sets : Settings) (w : World) (q : Request) (plan : Plan) (s : S) (a : Acted) (v : World) (t : S) : Type 0 where

@@ -19,24 +19,26 @@ use reply::ReplyAddress;
 use session::{Session, Wanted, first_row, ruled_session};
 use store::Store;
 
-// The approver's verdict: a yes with a reply address, or a no with a code.
+// The approver's verdict: a yes with a reply address, or a no with a code. A no is an answer and no error, so this is no `Result`.
 #[derive(Clone, Copy)]
 pub enum Verdict<'a> {
     Yes(&'a [u8]),
     No(u32),
 }
 
-// What a verdict makes of the session that it is about, and what the answer comes to.
-fn ruling(verdict: Verdict<'_>) -> (Stage, Outcome)
-    ensures stage { phase_of result.0 ≡ word_phase (word_of verdict.entry) }
-    ensures outcome { result.1 ≡ word_outcome (word_of verdict.entry) }
-{
-    match verdict {
-        Verdict::Yes(bytes) => match ReplyAddress::new(bytes) {
-            Some(address) => (Stage::Ready(address), Outcome::Done),
-            None => (Stage::Receiving, Outcome::BadReplyAddress),
-        },
-        Verdict::No(code) => (Stage::Receiving, Outcome::Rejected { code }),
+impl Verdict<'_> {
+    // What the verdict makes of the session that it is about, and what the answer comes to.
+    fn ruling(self) -> (Stage, Outcome)
+        ensures stage { phase_of result.0 ≡ word_phase (word_of self.entry) }
+        ensures outcome { result.1 ≡ word_outcome (word_of self.entry) }
+    {
+        match self {
+            Verdict::Yes(bytes) => ReplyAddress::new(bytes).map_or(
+                (Stage::Receiving, Outcome::BadReplyAddress),
+                |address| (Stage::Ready(address), Outcome::Done),
+            ),
+            Verdict::No(code) => (Stage::Receiving, Outcome::Rejected { code }),
+        }
     }
 }
 
@@ -44,10 +46,7 @@ fn ruling(verdict: Verdict<'_>) -> (Stage, Outcome)
 fn rule(row: &mut Option<Session>, stage: Stage)
     ensures { row_of row.new ≡ option_map (ruled (phase_of stage)) (row_of row.old) }
 {
-    let Some(session) = *row else {
-        return;
-    };
-    *row = Some(ruled_session(session, stage));
+    *row = row.map(|session| ruled_session(session, stage));
 }
 
 impl<S: Store> Intake<S> {
@@ -57,10 +56,10 @@ impl<S: Store> Intake<S> {
         ensures store { self.new.store ≡ self.old.store }
         ensures settings { self.new.settings ≡ self.old.settings }
     {
-        let Some(i) = first_row(&self.rows, Wanted::Asked(serial), b"") else {
+        let Some(i) = first_row(&self.rows, Wanted::Asked(serial)) else {
             return (Outcome::NoSession, None);
         };
-        let (stage, outcome) = ruling(verdict);
+        let (stage, outcome) = verdict.ruling();
         rule(&mut self.rows[i], stage);
         (outcome, progress_of(&self.rows[i]))
     }

@@ -1,5 +1,5 @@
 // The calls of an intake.
-ghost use Rattle.std.specs.Prelude.{◌≡◌, ℕ, ◌<◌, ◌≤◌, List, [], map, length, replicate, None, Ok, Err};
+ghost use Rattle.std.specs.Prelude.{◌≡◌, ℕ, ◌<◌, ◌≤◌, List, [], map, length, replicate, None, Some, Ok, Err, codes};
 ghost use Rattle.session.specs.Plans.{create_plan};
 ghost use Rattle.session.specs.Sessions.{path_of};
 ghost use Rattle.session.specs.Steps.{Opened, Started};
@@ -9,21 +9,36 @@ ghost use Rattle.intake_core.specs.Worlds.{Changed, Created, clearings, world_of
 use crate::faults::Refused;
 use crate::intake::Intake;
 use outcome::Outcome;
-use session::{Destination, ROWS, Settings, Wanted, create_fault, first_row, opened_session};
+use packet::Packet;
+use session::{Destination, ROWS, Settings, Wanted, first_row, opened_session};
+use std::error::Error;
+use std::fmt;
 use store::Store;
 
 // A setting is broken: the store is given back as it was.
+#[derive(Drop)]
+#[derive_where(Debug)]
 pub struct BadSetting<S: Store> {
+    #[derive_where(skip)]
     pub store: S,
     pub outcome: Outcome,
 }
 
-fn cleared<S: Store>(store: S) -> S
+impl<S: Store> fmt::Display for BadSetting<S> {
+    ghost output = { λ _. Some (codes "a setting is broken") };
+
+    fn fmt<W: fmt::Write>(&self, f: &mut fmt::Formatter<W>) -> fmt::Result {
+        f.write_str("a setting is broken")
+    }
+}
+
+impl<S: Store + Drop> Error for BadSetting<S> {}
+
+fn cleared<S: Store>(mut store: S) -> S
     ensures names { (n : List ℕ) → (S.Store.meaning result).catalog n ≡ (S.Store.meaning store).catalog n }
     ensures account { Changed S.Store.made store (clearings 16) result }
     ensures emptied { (i : ℕ) → i < 16 → (S.Store.meaning result).held i ≡ [] }
 {
-    let mut store = store;
     for i in 0..ROWS {
         store.clear(i);
     }
@@ -68,50 +83,33 @@ impl<S: Store> Intake<S> {
     }
 
     // Opens a session in a free row.
-    fn open(&mut self, row: usize, path: &[u8])
+    fn open(&mut self, row: usize, destination: Destination)
         requires inside { row < 16 }
-        requires short { length path.now ≤ 128 }
         requires more { self.old.next < 18446744073709551615 }
-        ensures opened { Opened (world_of S.Store.meaning self.old) path.now row (world_of S.Store.meaning self.new) }
+        ensures opened { Opened (world_of S.Store.meaning self.old) (path_of destination) row (world_of S.Store.meaning self.new) }
         ensures account { S.Store.made self.old.store (clearing row) self.new.store }
         ensures settings { self.new.settings ≡ self.old.settings }
     {
         let serial = self.next;
         self.store.clear(row);
-        self.rows[row] = Some(opened_session(self.clock, serial, destination_of(path)));
+        self.rows[row] = Some(opened_session(self.clock, serial, destination));
         self.next = serial + 1;
     }
 
-    // Opens a session for a path in the lowest free row, or says why not.
-    pub(crate) fn create(&mut self, shared: bool, path: &[u8]) -> Result<Outcome, Refused>
-        requires { length path.now ≤ 128 }
-        ensures created { Created S.Store.made (create_plan self.old.settings (world_of S.Store.meaning self.old) shared path.now) (world_of S.Store.meaning self.old) path.now self.old.store result (world_of S.Store.meaning self.new) self.new.store }
+    // Opens a session for a request's path in the lowest free row, or says why not.
+    pub(crate) fn create(&mut self, shared: bool, packet: &Packet<'_>) -> Result<Outcome, Refused>
+        ensures created { Created S.Store.made (create_plan self.old.settings (world_of S.Store.meaning self.old) shared packet.now.path.now) (world_of S.Store.meaning self.old) packet.now.path.now self.old.store result (world_of S.Store.meaning self.new) self.new.store }
         ensures settings { self.new.settings ≡ self.old.settings }
     {
+        let path = packet.path;
         let stands = self.store.published_length(path).is_some();
-        let free = first_row(&self.rows, Wanted::Free, path);
+        let free = first_row(&self.rows, Wanted::Free);
         let full = free.is_none();
-        if let Some(outcome) = create_fault(&self.settings, shared, path, stands, full, self.next) {
-            return Err(Refused { outcome });
-        }
-        match free {
-            Some(row) => {
-                self.open(row, path);
-                Ok(Outcome::Done)
-            }
-            None => Err(Refused {
-                outcome: Outcome::TooManySessions,
-            }),
-        }
-    }
-}
-
-fn destination_of(path: &[u8]) -> Destination
-    requires { length path.now ≤ 128 }
-    ensures { path_of result ≡ path.now }
-{
-    match Destination::new(path) {
-        Some(destination) => destination,
-        None => unreachable(),
+        self.settings
+            .create_fault(shared, path, stands, full, self.next)?;
+        // `create_fault` has told a full table already; the type asks again
+        let row = free.ok_or(Outcome::TooManySessions)?;
+        self.open(row, Destination::new(path).unwrap());
+        Ok(Outcome::Done)
     }
 }

@@ -5,17 +5,6 @@ ghost use Rattle.session.specs.Steps.{fault_outcome};
 
 use outcome::Outcome;
 
-fn outcome_of(fault: packet::Fault) -> Outcome
-    ensures { result ≡ fault_outcome fault }
-{
-    match fault {
-        packet::Fault::Text(head::Fault::Unfinished) => Outcome::UnfinishedHead,
-        packet::Fault::Text(head::Fault::Malformed(line)) => Outcome::BadHead { line },
-        packet::Fault::Text(head::Fault::Repeated(line)) => Outcome::RepeatedField { line },
-        packet::Fault::Field(line) => Outcome::BadPacket { line },
-    }
-}
-
 // Why a call is refused. The faults of all layers pass up in it, number and place kept.
 #[derive(Clone, Copy)]
 pub(crate) struct Refused {
@@ -26,9 +15,13 @@ impl From<packet::Fault> for Refused {
     ghost from_gives = { λ e r. r.outcome ≡ fault_outcome e };
 
     fn from(fault: packet::Fault) -> Refused {
-        Refused {
-            outcome: outcome_of(fault),
-        }
+        let outcome = match fault {
+            packet::Fault::Text(head::Fault::Unfinished) => Outcome::UnfinishedHead,
+            packet::Fault::Text(head::Fault::Malformed(line)) => Outcome::BadHead { line },
+            packet::Fault::Text(head::Fault::Repeated(line)) => Outcome::RepeatedField { line },
+            packet::Fault::Field(line) => Outcome::BadPacket { line },
+        };
+        Refused { outcome }
     }
 }
 

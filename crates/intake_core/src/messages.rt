@@ -1,20 +1,22 @@
 // A message: read, judged and acted on, and acknowledged.
-ghost use Rattle.std.specs.Prelude.{◌≡◌, ◌<◌, ◌≤◌, true, [], ◌∷◌, ◌++◌, map, length, drop, IfSome, IfOk, if◌then◌else◌};
+ghost use Rattle.std.specs.Prelude.{◌≡◌, ◌<◌, ◌≤◌, true, ◌++◌, map, length, drop, Result, None, IfSome, IfOk};
 ghost use Rattle.ack.specs.Text.{ack_bytes};
-ghost use Rattle.ack.specs.Told.{handed_over, is_away};
+ghost use Rattle.ack.specs.Told.{handed_over};
 ghost use Rattle.packet.specs.Packets.{packet_of, request};
-ghost use Rattle.session.specs.Plans.{found, is_ping, plan_of, with_row};
+ghost use Rattle.outcome.specs.declared.Outcome.{Outcome};
+ghost use Rattle.session.specs.Plans.{found, plan_of, with_row};
 ghost use Rattle.session.specs.Sessions.{row_of};
 ghost use Rattle.session.specs.Steps.{MessageDone, message_outcome, message_used};
 ghost use Rattle.session.specs.Told.{message_ack, message_changes, newly_away};
-ghost use Rattle.intake_core.specs.Worlds.{Acting, Changed, Ends, IsFragmentOf, Received, Shows, Visited, live_plan, notice_for, noticed, outcome_in, row_in, world_of};
+ghost use Rattle.intake_core.specs.declared.faults.Refused.{Refused};
+ghost use Rattle.intake_core.specs.Worlds.{Acting, Changed, Received, Shows, Visited, live_plan, notice_for, noticed, outcome_in, row_in, world_of};
 
 use crate::faults::Refused;
 use crate::intake::Intake;
 use crate::notice::Notice;
 use crate::replies::{Reply, progress_of, written};
-use crate::steps::settle;
-use ack::{Call, LEAST_PAGE, Progress, Stage};
+use crate::steps::Slot;
+use ack::{Call, LEAST_PAGE, Progress};
 use ids::SessionId;
 use outcome::Outcome;
 use packet::{Action, Packet, read_packet};
@@ -28,6 +30,21 @@ pub(crate) struct Acted {
     pub(crate) notice: Option<Notice>,
 }
 
+impl Acted {
+    // No session has newly gone to the approver.
+    fn unnoticed(outcome: Outcome, call: Call) -> Acted
+        ensures outcome { result.outcome ≡ outcome }
+        ensures call { result.call ≡ call }
+        ensures notice { result.notice ≡ None }
+    {
+        Acted {
+            outcome,
+            call,
+            notice: None,
+        }
+    }
+}
+
 impl<S: Store> Intake<S> {
     // The row of the session that an id and a path name.
     fn find(&self, id: SessionId, path: &[u8]) -> Option<usize>
@@ -37,130 +54,64 @@ impl<S: Store> Intake<S> {
         if id.site != self.settings.site {
             return None;
         }
-        first_row(&self.rows, Wanted::Named(id.serial), path)
+        let serial = id.serial;
+        first_row(&self.rows, Wanted::Named { serial, path })
     }
 
     // Lends a row to a request that found it.
     fn visit(&mut self, row: Option<usize>, packet: &Packet<'_>) -> Result<Outcome, Refused>
         requires inside { IfSome row (λ i. i < 16) }
-        requires present { length packet.now.body.now ≤ packet.now.content_length }
         ensures visited { Visited S.Store.made self.old.settings (world_of S.Store.meaning self.old) (request packet.now) (with_row (world_of S.Store.meaning self.old) row (live_plan self.old.settings (world_of S.Store.meaning self.old) (request packet.now) packet.now.action)) self.old.store result (world_of S.Store.meaning self.new) self.new.store }
         ensures settings { self.new.settings ≡ self.old.settings }
     {
-        let Some(i) = row else {
-            return Err(Refused {
-                outcome: Outcome::NoSession,
-            });
-        };
-        let settings = self.settings;
-        let clock = self.clock;
+        let i = row.ok_or(Outcome::NoSession)?;
         let row = &mut self.rows[i];
-        settle(&settings, clock, &mut self.store, i, row, packet)
-    }
-
-    // A creation.
-    fn begin(&mut self, shared: bool, packet: &Packet<'_>) -> Acted
-        requires short { length packet.now.path.now ≤ 128 }
-        requires kind { packet.now.action ≡ Action.Create shared }
-        requires on { self.old.settings.uploads ≡ true }
-        ensures acting { Acting S.Store.made self.old.settings (world_of S.Store.meaning self.old) (request packet.now) (plan_of self.old.settings (world_of S.Store.meaning self.old) (request packet.now)) self.old.store result (world_of S.Store.meaning self.new) self.new.store }
-        ensures settings { self.new.settings ≡ self.old.settings }
-    {
-        let id = SessionId {
-            site: self.settings.site,
-            serial: self.next,
+        let mut slot = Slot {
+            settings: self.settings,
+            clock: self.clock,
+            store: &mut self.store,
+            number: i,
         };
-        let outcome = outcome_in(self.create(shared, packet.path));
-        Acted {
-            outcome,
-            call: Call::Create(id),
-            notice: None,
-        }
-    }
-
-    // A fragment: its session is told, and newly at the approver it is noticed.
-    fn fragment(&mut self, id: SessionId, packet: &Packet<'_>) -> Acted
-        requires present { length packet.now.body.now ≤ packet.now.content_length }
-        requires kind { IsFragmentOf id packet.now.action }
-        requires on { self.old.settings.uploads ≡ true }
-        ensures acting { Acting S.Store.made self.old.settings (world_of S.Store.meaning self.old) (request packet.now) (plan_of self.old.settings (world_of S.Store.meaning self.old) (request packet.now)) self.old.store result (world_of S.Store.meaning self.new) self.new.store }
-        ensures settings { self.new.settings ≡ self.old.settings }
-    {
-        let row = self.find(id, packet.path);
-        let result = self.visit(row, packet);
-        let progress = progress_in(&self.rows, row);
-        let outcome = outcome_in(result);
-        let notice = notice_for(result, &progress, id.serial);
-        Acted {
-            outcome,
-            call: Call::Fragment(id, progress),
-            notice,
-        }
+        slot.settle(row, packet)
     }
 
     // A close or a cancellation.
-    fn finish(&mut self, id: SessionId, packet: &Packet<'_>, call: Call) -> Acted
-        requires present { length packet.now.body.now ≤ packet.now.content_length }
-        requires kind { Ends id packet.now.action call }
-        requires on { self.old.settings.uploads ≡ true }
-        ensures acting { Acting S.Store.made self.old.settings (world_of S.Store.meaning self.old) (request packet.now) (plan_of self.old.settings (world_of S.Store.meaning self.old) (request packet.now)) self.old.store result (world_of S.Store.meaning self.new) self.new.store }
+    fn finish(&mut self, id: SessionId, packet: &Packet<'_>) -> Outcome
+        ensures finished { (r : Result Outcome Refused) × (result ≡ outcome_in r) × Visited S.Store.made self.old.settings (world_of S.Store.meaning self.old) (request packet.now) (with_row (world_of S.Store.meaning self.old) (found self.old.settings (world_of S.Store.meaning self.old) id packet.now.path.now) (live_plan self.old.settings (world_of S.Store.meaning self.old) (request packet.now) packet.now.action)) self.old.store r (world_of S.Store.meaning self.new) self.new.store }
         ensures settings { self.new.settings ≡ self.old.settings }
     {
         let row = self.find(id, packet.path);
-        let result = self.visit(row, packet);
-        Acted {
-            outcome: outcome_in(result),
-            call,
-            notice: None,
-        }
+        outcome_in(self.visit(row, packet))
     }
 
-    // What a request asks of an intake whose uploads are on.
-    fn upload(&mut self, packet: &Packet<'_>) -> Acted
-        requires short { length packet.now.path.now ≤ 128 }
-        requires present { length packet.now.body.now ≤ packet.now.content_length }
-        requires on { self.old.settings.uploads ≡ true }
+    // What a request comes to. Only a ping is answered while uploads are off.
+    fn perform(&mut self, packet: &Packet<'_>) -> Acted
         ensures acting { Acting S.Store.made self.old.settings (world_of S.Store.meaning self.old) (request packet.now) (plan_of self.old.settings (world_of S.Store.meaning self.old) (request packet.now)) self.old.store result (world_of S.Store.meaning self.new) self.new.store }
         ensures settings { self.new.settings ≡ self.old.settings }
     {
         match packet.action {
-            Action::Create { shared } => self.begin(shared, packet),
-            Action::Ping => Acted {
-                outcome: Outcome::Done,
-                call: Call::Ping,
-                notice: None,
-            },
-            Action::Fragment {
-                id,
-                range: _,
-                at: _,
-            } => self.fragment(id, packet),
-            Action::Close { id } => self.finish(id, packet, Call::Close(id)),
-            Action::Cancel { id } => self.finish(id, packet, Call::Cancel(id)),
-        }
-    }
-
-    // Only a ping is answered while uploads are off.
-    fn perform(&mut self, packet: &Packet<'_>) -> Acted
-        requires short { length packet.now.path.now ≤ 128 }
-        requires present { length packet.now.body.now ≤ packet.now.content_length }
-        ensures acting { Acting S.Store.made self.old.settings (world_of S.Store.meaning self.old) (request packet.now) (plan_of self.old.settings (world_of S.Store.meaning self.old) (request packet.now)) self.old.store result (world_of S.Store.meaning self.new) self.new.store }
-        ensures settings { self.new.settings ≡ self.old.settings }
-    {
-        if self.settings.uploads {
-            return self.upload(packet);
-        }
-        if is_ping(packet.action) {
-            return Acted {
-                outcome: Outcome::Done,
-                call: Call::Ping,
-                notice: None,
-            };
-        }
-        Acted {
-            outcome: Outcome::UploadsOff,
-            call: Call::Unread,
-            notice: None,
+            Action::Ping => Acted::unnoticed(Outcome::Done, Call::Ping),
+            _ if !self.settings.uploads => Acted::unnoticed(Outcome::UploadsOff, Call::Unread),
+            Action::Create { shared } => {
+                let id = SessionId {
+                    site: self.settings.site,
+                    serial: self.next,
+                };
+                Acted::unnoticed(outcome_in(self.create(shared, packet)), Call::Create(id))
+            }
+            // its session is told, and newly at the approver it is noticed
+            Action::Fragment { id, .. } => {
+                let row = self.find(id, packet.path);
+                let result = self.visit(row, packet);
+                let progress = progress_in(&self.rows, row);
+                Acted {
+                    outcome: outcome_in(result),
+                    call: Call::Fragment(id, progress),
+                    notice: notice_for(result, &progress, id.serial),
+                }
+            }
+            Action::Close { id } => Acted::unnoticed(self.finish(id, packet), Call::Close(id)),
+            Action::Cancel { id } => Acted::unnoticed(self.finish(id, packet), Call::Cancel(id)),
         }
     }
 
@@ -196,31 +147,21 @@ impl<S: Store> Intake<S> {
                 notice: None,
             };
         }
-        match self.receive(input) {
-            Ok((acted, used)) => {
-                let Acted {
-                    outcome,
-                    call,
-                    notice,
-                } = acted;
-                let length = written(page, outcome, &call);
-                Reply {
-                    outcome,
-                    used,
-                    length,
-                    notice,
-                }
-            }
-            Err(refused) => {
-                let outcome = refused.outcome;
-                let length = written(page, outcome, &Call::Unread);
-                Reply {
-                    outcome,
-                    used: input.len(),
-                    length,
-                    notice: None,
-                }
-            }
+        let (acted, used) = self.receive(input).unwrap_or_else(|refused| (
+            Acted::unnoticed(refused.outcome, Call::Unread),
+            input.len(),
+        ));
+        let Acted {
+            outcome,
+            call,
+            notice,
+        } = acted;
+        let length = written(page, outcome, &call);
+        Reply {
+            outcome,
+            used,
+            length,
+            notice,
         }
     }
 }
@@ -230,19 +171,13 @@ fn progress_in(rows: &[Option<Session>; ROWS], row: Option<usize>) -> Option<Pro
     requires { IfSome row (λ i. i < 16) }
     ensures { Shows result (row_in (map row_of rows.now) row) }
 {
-    match row {
-        Some(i) => progress_of(&rows[i]),
-        None => None,
-    }
+    progress_of(&rows[row?])
 }
 
 fn outcome_in(res: Result<Outcome, Refused>) -> Outcome
     ensures { result ≡ outcome_in res }
 {
-    match res {
-        Ok(outcome) => outcome,
-        Err(refused) => refused.outcome,
-    }
+    res.unwrap_or_else(|refused| refused.outcome)
 }
 
 // A notice for a session that a whole fragment has brought to the approver.
@@ -253,29 +188,8 @@ fn notice_for(
 ) -> Option<Notice>
     ensures { noticed result ≡ notice_for res (handed_over found.now) serial }
 {
-    match (res, found) {
-        (Ok(Outcome::Done), Some(progress)) => handed_out(progress, serial),
-        _ => None,
-    }
-}
-
-fn handed_out(progress: &Progress, serial: u64) -> Option<Notice>
-    ensures { noticed result ≡ (if is_away progress.now.stage then serial ∷ [] else []) }
-{
-    match progress.stage {
-        Stage::AtApprover => Some(Notice::hand_out(serial)),
-        _ => None,
-    }
-}
-
-fn is_ping(action: Action) -> bool
-    ensures { result ≡ is_ping action }
-{
-    match action {
-        Action::Ping => true,
-        Action::Create { .. } => false,
-        Action::Fragment { .. } => false,
-        Action::Close { .. } => false,
-        Action::Cancel { .. } => false,
-    }
+    let away = found
+        .as_ref()
+        .is_some_and(|progress| progress.stage.is_away());
+    (away && matches!(res, Ok(Outcome::Done))).then(|| Notice::hand_out(serial))
 }

@@ -1,6 +1,7 @@
 // The duty to have a whole bundle approved. It cannot be let go: only an answer spends it.
 ghost use Rattle.std.specs.Prelude.{◌≡◌};
 
+// A plain number, so that nothing of the intake is borrowed while the approver thinks.
 pub struct Notice {
     serial: u64,
 }

@@ -17,7 +17,8 @@ pub struct Reply {
     pub used: usize,
     // the bytes of the acknowledgement, at the front of the page
     pub length: usize,
-    // of a message: a session has newly gone to the approver; of an answer: handed back, as the page was too short
+    // of a message: a session has newly gone to the approver; of an answer: handed back, as the page was too short;
+    // one field, since either way it is the duty that the caller now has
     pub notice: Option<Notice>,
 }
 
@@ -25,13 +26,7 @@ pub struct Reply {
 pub(crate) fn progress_of(row: &Option<Session>) -> Option<Progress>
     ensures { Shows result (row_of row.now) }
 {
-    match row {
-        Some(session) => Some(Progress {
-            received: session.received,
-            stage: session.stage,
-        }),
-        None => None,
-    }
+    row.as_ref().map(Session::progress)
 }
 
 // The length of the acknowledgement that was written at the front of the page.
@@ -41,8 +36,5 @@ pub(crate) fn written(page: &mut [u8], outcome: Outcome, call: &Call) -> usize
     ensures fits { result ≤ length page.old }
     ensures page { page.new ≡ ack_bytes (ack_of outcome call.now) ++ drop (length (ack_bytes (ack_of outcome call.now))) page.old }
 {
-    match acknowledge(page, outcome, call) {
-        Ok(length) => length,
-        Err(_) => unreachable(),
-    }
+    acknowledge(page, outcome, call).unwrap()
 }

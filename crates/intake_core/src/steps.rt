@@ -9,51 +9,14 @@ use crate::faults::Refused;
 use ack::Stage;
 use outcome::Outcome;
 use packet::{Action, Packet, Range};
-use session::{Session, Settings, close_fault, judge_fragment};
+use session::{Fragment, Session, Settings};
 use store::Store;
 
 // The bytes past the first `skip`.
 fn past(bytes: &[u8], skip: u64) -> &[u8]
     ensures { result.now ≡ drop skip bytes.now }
 {
-    if skip <= bytes.len() as u64 {
-        &bytes[skip as usize..]
-    } else {
-        &bytes[bytes.len()..]
-    }
-}
-
-// Adds what is new of a fragment's body to a slot and gives its session's new record, or says why not.
-fn take<S: Store>(
-    settings: &Settings,
-    clock: u64,
-    store: &mut S,
-    slot: usize,
-    session: &Session,
-    range: Range,
-    at: usize,
-    packet: &Packet<'_>,
-) -> Result<Session, Refused>
-    requires { length packet.now.body.now ≤ packet.now.content_length }
-    ensures { Taken S.Store.meaning S.Store.made settings.now clock slot (request packet.now) range at (live session.now) store.old result store.new }
-{
-    let room = store.room(slot);
-    let present = packet.body.len();
-    let grown = judge_fragment(
-        settings,
-        clock,
-        session,
-        range,
-        at,
-        packet.content_length,
-        present,
-        room,
-    )?;
-    store.add(
-        slot,
-        past(packet.body, session.received.saturating_sub(range.first)),
-    )?;
-    Ok(grown)
+    &bytes[skip.min(bytes.len() as u64) as usize..]
 }
 
 // Whether all announced bytes came.
@@ -67,68 +30,84 @@ fn outcome_of(packet: &Packet<'_>) -> Outcome
     }
 }
 
-// Publishes a slot under the destination of its session, or says why not.
-fn publish<S: Store>(
-    settings: &Settings,
-    store: &mut S,
-    slot: usize,
-    session: &Session,
-) -> Result<(), Refused>
-    ensures { Shut S.Store.meaning S.Store.made settings.now slot (live session.now) store.old result store.new }
-{
-    let path = session.destination.as_bytes();
-    let stands = store.published_length(path).is_some();
-    let can = store.can_publish(slot, path);
-    if let Some(outcome) = close_fault(settings, &session.stage, stands, can) {
-        return Err(Refused { outcome });
-    }
-    store.publish(slot, path)?;
-    Ok(())
+// A slot of a store, lent with the settings and the clock that a message is judged by. Each method's clause `same_store`
+// says that the store is still the one lent: a caller learns nothing of a store whose reference may have been exchanged.
+#[derive(Drop)]
+pub(crate) struct Slot<'a, S: Store> {
+    pub(crate) settings: Settings,
+    pub(crate) clock: u64,
+    pub(crate) store: &'a mut S,
+    pub(crate) number: usize,
 }
 
-// The row is changed in place, by its session's state and the message together.
-pub(crate) fn settle<S: Store>(
-    settings: &Settings,
-    clock: u64,
-    store: &mut S,
-    slot: usize,
-    row: &mut Option<Session>,
-    packet: &Packet<'_>,
-) -> Result<Outcome, Refused>
-    requires { length packet.now.body.now ≤ packet.now.content_length }
-    ensures { Settled S.Store.meaning S.Store.made settings.now clock slot (request packet.now) row.old store.old result row.new store.new }
-{
-    let Some(session) = *row else {
-        return Err(Refused {
-            outcome: Outcome::NoSession,
-        });
-    };
-    match (&session.stage, &packet.action) {
-        (Stage::AtApprover, Action::Fragment { .. }) => Err(Refused {
-            outcome: Outcome::AtApprover,
-        }),
-        (Stage::AtApprover, Action::Close { .. }) => Err(Refused {
-            outcome: Outcome::AtApprover,
-        }),
-        (Stage::Receiving, Action::Close { .. }) => Err(Refused {
-            outcome: Outcome::Incomplete,
-        }),
-        (Stage::Receiving | Stage::Ready(_), Action::Fragment { id: _, range, at }) => {
-            *row = Some(take(settings, clock, store, slot, &session, *range, *at, packet)?);
-            Ok(outcome_of(packet))
+impl<S: Store> Slot<'_, S> {
+    // Adds what is new of a fragment's body and gives its session's new record, or says why not.
+    fn take(
+        &mut self,
+        session: &Session,
+        range: Range,
+        at: usize,
+        packet: &Packet<'_>,
+    ) -> Result<Session, Refused>
+        ensures taken { Taken S.Store.meaning S.Store.made self.old.settings self.old.clock self.old.number (request packet.now) range at (live session.now) self.old.store.now result self.new.store.now }
+        ensures same_store { self.new.store.ghost_name ≡ self.old.store.ghost_name }
+    {
+        let fragment = Fragment {
+            range,
+            line: at,
+            announced: packet.content_length,
+            present: packet.body.len(),
+        };
+        let room = self.store.room(self.number);
+        let grown = session.judge_fragment(&self.settings, self.clock, &fragment, room)?;
+        let skip = session.received.saturating_sub(range.first);
+        self.store.add(self.number, past(packet.body, skip))?;
+        Ok(grown)
+    }
+
+    // Publishes the slot under the destination of its session, or says why not.
+    fn publish(&mut self, session: &Session) -> Result<(), Refused>
+        ensures shut { Shut S.Store.meaning S.Store.made self.old.settings self.old.number (live session.now) self.old.store.now result self.new.store.now }
+        ensures same_store { self.new.store.ghost_name ≡ self.old.store.ghost_name }
+    {
+        let path = session.destination.as_bytes();
+        let stands = self.store.published_length(path).is_some();
+        let can = self.store.can_publish(self.number, path);
+        self.settings.close_fault(&session.stage, stands, can)?;
+        self.store.publish(self.number, path)?;
+        Ok(())
+    }
+
+    // The slot's row is changed in place, by its session's state and the message together.
+    pub(crate) fn settle(
+        &mut self,
+        row: &mut Option<Session>,
+        packet: &Packet<'_>,
+    ) -> Result<Outcome, Refused>
+        ensures settled { Settled S.Store.meaning S.Store.made self.old.settings self.old.clock self.old.number (request packet.now) row.old self.old.store.now result row.new self.new.store.now }
+        ensures same_store { self.new.store.ghost_name ≡ self.old.store.ghost_name }
+    {
+        let session = row.ok_or(Outcome::NoSession)?;
+        match (&session.stage, &packet.action) {
+            (Stage::AtApprover, Action::Fragment { .. } | Action::Close { .. }) => {
+                Err(Outcome::AtApprover.into())
+            }
+            (Stage::Receiving, Action::Close { .. }) => Err(Outcome::Incomplete.into()),
+            (Stage::Receiving | Stage::Ready(_), Action::Fragment { id: _, range, at }) => {
+                *row = Some(self.take(&session, *range, *at, packet)?);
+                Ok(outcome_of(packet))
+            }
+            (Stage::Ready(_), Action::Close { .. }) => {
+                self.publish(&session)?;
+                *row = None;
+                Ok(Outcome::Done)
+            }
+            (_, Action::Cancel { .. }) => {
+                self.store.clear(self.number);
+                *row = None;
+                Ok(Outcome::Done)
+            }
+            (_, Action::Create { .. } | Action::Ping) => Err(Outcome::NoSession.into()),
         }
-        (Stage::Ready(_), Action::Close { .. }) => {
-            publish(settings, store, slot, &session)?;
-            *row = None;
-            Ok(Outcome::Done)
-        }
-        (_, Action::Cancel { .. }) => {
-            store.clear(slot);
-            *row = None;
-            Ok(Outcome::Done)
-        }
-        (_, Action::Create { .. } | Action::Ping) => Err(Refused {
-            outcome: Outcome::NoSession,
-        }),
     }
 }

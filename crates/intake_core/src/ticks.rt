@@ -1,13 +1,12 @@
 // The clock of an intake.
-ghost use Rattle.std.specs.Prelude.{◌≡◌, ◌<◌, max, map};
+ghost use Rattle.std.specs.Prelude.{◌≡◌, max, map};
 ghost use Rattle.session.specs.Sessions.{row_of};
-ghost use Rattle.session.specs.Steps.{Cancelled, Ticked};
-ghost use Rattle.store.specs.Meaning.Change.{clearing};
-ghost use Rattle.intake_core.specs.Ticks.{sweeps};
+ghost use Rattle.session.specs.Steps.{Ticked};
+ghost use Rattle.intake_core.specs.Ticks.{Swept, sweeps};
 ghost use Rattle.intake_core.specs.Worlds.{Changed, world_of};
 
 use crate::intake::Intake;
-use session::{ROWS, is_expired};
+use session::{ROWS, Session, is_expired};
 use store::Store;
 
 impl<S: Store> Intake<S> {
@@ -19,24 +18,21 @@ impl<S: Store> Intake<S> {
         ensures settings { self.new.settings ≡ self.old.settings }
     {
         self.clock = self.clock.max(reading);
-        let mut ended: usize = 0;
-        for i in 0..ROWS {
-            if is_expired(self.clock, &self.rows[i]) {
-                self.end(i);
-                ended += 1;
-            }
-        }
-        ended
+        sweep(self.clock, &mut self.rows, &mut self.store)
     }
+}
 
-    // Ends the session in a row and clears its slot.
-    fn end(&mut self, row: usize)
-        requires { row < 16 }
-        ensures ended { Cancelled (world_of S.Store.meaning self.old) row (world_of S.Store.meaning self.new) }
-        ensures account { S.Store.made self.old.store (clearing row) self.new.store }
-        ensures settings { self.new.settings ≡ self.old.settings }
-    {
-        self.store.clear(row);
-        self.rows[row] = None;
+// Ends the sessions that have expired, clears their slots, and gives the number ended. A row's number is its slot's.
+fn sweep<S: Store>(clock: u64, rows: &mut [Option<Session>; ROWS], store: &mut S) -> usize
+    ensures { Swept S.Store.meaning S.Store.made clock (map row_of rows.old) store.old result (map row_of rows.new) store.new }
+{
+    let mut ended: usize = 0;
+    for (slot, row) in rows.iter_mut().enumerate() {
+        if is_expired(clock, row) {
+            store.clear(slot);
+            *row = None;
+            ended += 1;
+        }
     }
+    ended
 }

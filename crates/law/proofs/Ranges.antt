@@ -4,6 +4,7 @@ use Rattle.std.specs.Option.{option_map}
 use Rattle.std.specs.Str.{bytes_eq}
 use Rattle.std.proofs.lemmas.List.{get_or-set_same}
 use Rattle.std.proofs.lemmas.Bool.{and_parts, eqb-true, cond_both}
+use Rattle.std.proofs.lemmas.Option.{none-some}
 use Rattle.ack.specs.Told.{Ack}
 use Rattle.ids.specs.declared.SessionId.{SessionId}
 use Rattle.outcome.specs.Outcomes.{report_of}
@@ -23,7 +24,7 @@ use Rattle.session.specs.Told.{is_away_now, row_at, found_in, done_ack, request_
 use Rattle.session.specs.declared.records.Settings.{Settings}
 use Rattle.history.specs.Ledger.{places, Entry, Ledger, of_path, named}
 use Rattle.history.specs.Law.{Tells, Stepped}
-use Rattle.history.proofs.Rows.{none-some, some_inj, row_inside, passes}
+use Rattle.history.proofs.Rows.{some_inj, row_inside, passes}
 use Rattle.history.proofs.Refusals.{fragment-refuses, on-unless, on_row}
 use Rattle.law.specs.Heard.{session_in, session_read, session_of, ack_of_call, range_told}
 

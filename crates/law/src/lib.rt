@@ -5,9 +5,7 @@
 ghost use Rattle.law.specs.Whole.{Promised, PromisedHeard};
 
 // It stands over the definitions of what a call does; no code runs here.
-pub fn law_stands() -> u8
+pub fn law_stands()
     ensures whole { Promised }
     ensures heard { PromisedHeard }
-{
-    0
-}
+{}

@@ -70,6 +70,17 @@ phrase_of status.ServerError = codes "Internal Server Error"
 phrase_of status.NotImplemented = codes "Not Implemented"
 phrase_of status.Unavailable = codes "Service Unavailable"
 
+-- the names of the layers, as they are printed
+abbrev pub name_of : Layer → List ℕ
+name_of layer.Clear = codes "clear"
+name_of layer.Page = codes "page"
+name_of layer.Text = codes "text"
+name_of layer.Protocol = codes "protocol"
+name_of layer.Session = codes "session"
+name_of layer.Store = codes "store"
+name_of layer.Approver = codes "approver"
+name_of layer.Making = codes "making"
+
 abbrev pub context_of : Context → ℕ
 context_of context.Intake = 5
 context_of context.Approver = 7

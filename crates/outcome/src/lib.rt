@@ -2,9 +2,11 @@
 #![tactic(auto)]
 
 ghost use Rattle.std.specs.Prelude.{◌≡◌};
-ghost use Rattle.outcome.specs.Outcomes.{by, context_of, invalid_code, number_of, of, phrase_of, report_of};
+ghost use Rattle.outcome.specs.Outcomes.{by, context_of, name_of, number_of, of, phrase_of, report_of};
 
-#[derive(Clone, Copy)]
+use std::fmt;
+
+#[derive(Clone, Copy, Debug, PartialEq, Eq)]
 pub enum Outcome {
     Done,
     ShortPage,
@@ -33,7 +35,7 @@ pub enum Outcome {
 }
 
 // Where a fault arose.
-#[derive(Clone, Copy)]
+#[derive(Clone, Copy, Debug, PartialEq, Eq)]
 pub enum Layer {
     Clear,
     Page,
@@ -45,25 +47,25 @@ pub enum Layer {
     Making,
 }
 
-#[derive(Clone, Copy)]
+#[derive(Clone, Copy, Debug, PartialEq, Eq)]
 pub enum Status {
-    Ok,
-    BadRequest,
-    Forbidden,
-    BadRange,
-    ServerError,
-    NotImplemented,
-    Unavailable,
+    Ok = 200,
+    BadRequest = 400,
+    Forbidden = 403,
+    BadRange = 416,
+    ServerError = 500,
+    NotImplemented = 501,
+    Unavailable = 503,
 }
 
 // Who speaks in a refusal.
-#[derive(Clone, Copy)]
+#[derive(Clone, Copy, Debug, PartialEq, Eq)]
 pub enum Context {
-    Intake,
-    Approver,
+    Intake = 5,
+    Approver = 7,
 }
 
-#[derive(Clone, Copy)]
+#[derive(Clone, Copy, Debug, PartialEq, Eq)]
 pub struct Refusal {
     pub status: Status,
     pub code: u32,
@@ -71,14 +73,14 @@ pub struct Refusal {
 }
 
 // What is acknowledged.
-#[derive(Clone, Copy)]
+#[derive(Clone, Copy, Debug, PartialEq, Eq)]
 pub enum Answer {
     Silent,
     Accepted,
     Refused(Refusal),
 }
 
-#[derive(Clone, Copy)]
+#[derive(Clone, Copy, Debug, PartialEq, Eq)]
 pub struct Report {
     pub number: u8,
     pub layer: Layer,
@@ -86,8 +88,14 @@ pub struct Report {
     pub answer: Answer,
 }
 
-const INVALID: u32 = 0x80070057;
+// Something in the message is wrong.
+const INVALID: Answer = Answer::Refused(Refusal {
+    status: Status::BadRequest,
+    code: 0x80070057,
+    context: Context::Intake,
+});
 
+// The protocol's codes are numbers, since a no of the approver's brings any other.
 const DENIED: u32 = 0x80070005;
 
 const NO_SESSION: u32 = 0x8020001f;
@@ -106,59 +114,20 @@ const STORE_FULL: u32 = 0x80070112;
 
 const UNEXPECTED: u32 = 0x8000ffff;
 
-fn silent(number: u8, layer: Layer) -> Report
-    ensures { result ≡ of number layer 0 Answer.Silent }
+fn by(context: Context, status: Status, code: u32) -> Answer
+    ensures { result ≡ by context status code }
 {
-    let answer = Answer::Silent;
-    Report {
-        number,
-        layer,
-        place: 0,
-        answer,
-    }
-}
-
-fn refused(number: u8, layer: Layer, status: Status, code: u32) -> Report
-    ensures { result ≡ of number layer 0 (by Context.Intake status code) }
-{
-    let context = Context::Intake;
-    let answer = Answer::Refused(Refusal {
+    Answer::Refused(Refusal {
         status,
         code,
         context,
-    });
-    Report {
-        number,
-        layer,
-        place: 0,
-        answer,
-    }
+    })
 }
 
-// Something in the line at `place` is wrong.
-fn invalid(number: u8, layer: Layer, place: usize) -> Report
-    ensures { result ≡ of number layer place (by Context.Intake Status.BadRequest invalid_code) }
+fn refused(status: Status, code: u32) -> Answer
+    ensures { result ≡ by Context.Intake status code }
 {
-    let refusal = refused(number, layer, Status::BadRequest, INVALID);
-    Report { place, ..refusal }
-}
-
-fn rejected(code: u32) -> Report
-    ensures { result ≡ of 20 Layer.Approver 0 (by Context.Approver Status.ServerError code) }
-{
-    let status = Status::ServerError;
-    let context = Context::Approver;
-    let answer = Answer::Refused(Refusal {
-        status,
-        code,
-        context,
-    });
-    Report {
-        number: 20,
-        layer: Layer::Approver,
-        place: 0,
-        answer,
-    }
+    by(Context::Intake, status, code)
 }
 
 impl Outcome {
@@ -170,38 +139,99 @@ impl Outcome {
         self.row()
     }
 
+    // The numbers stand in the rows: no cast gives them, since some outcomes hold a line or a code.
     fn row(self) -> Report
         ensures { result ≡ report_of self }
     {
-        match self {
-            Outcome::Done => Report {
-                answer: Answer::Accepted,
-                ..silent(0, Layer::Clear)
-            },
-            Outcome::ShortPage => silent(1, Layer::Page),
-            Outcome::UnfinishedHead => silent(2, Layer::Text),
-            Outcome::BadHead { line } => invalid(3, Layer::Text, line),
-            Outcome::RepeatedField { line } => invalid(4, Layer::Text, line),
-            Outcome::BadPacket { line } => invalid(5, Layer::Protocol, line),
-            Outcome::UploadsOff => refused(6, Layer::Protocol, Status::NotImplemented, DENIED),
-            Outcome::NoSharedProtocol => invalid(7, Layer::Protocol, 0),
-            Outcome::FolderDestination => invalid(8, Layer::Protocol, 0),
-            Outcome::NoSession => refused(9, Layer::Session, Status::ServerError, NO_SESSION),
-            Outcome::AtApprover => refused(10, Layer::Session, Status::Unavailable, AT_APPROVER),
-            Outcome::Incomplete => invalid(11, Layer::Session, 0),
-            Outcome::WrongRange { line } => invalid(12, Layer::Session, line),
-            Outcome::TooLarge => refused(13, Layer::Session, Status::ServerError, TOO_LARGE),
-            Outcome::Gap => refused(14, Layer::Session, Status::BadRange, GAP),
-            Outcome::DestinationStands => refused(15, Layer::Session, Status::Forbidden, DENIED),
-            Outcome::TooManySessions => refused(16, Layer::Session, Status::Unavailable, CROWDED),
-            Outcome::SerialsSpent => refused(17, Layer::Session, Status::Unavailable, SPENT),
-            Outcome::StoreFull => refused(18, Layer::Store, Status::ServerError, STORE_FULL),
-            Outcome::CutBody => silent(19, Layer::Session),
-            Outcome::Rejected { code } => rejected(code),
-            Outcome::BadReplyAddress => invalid(21, Layer::Approver, 0),
-            Outcome::StoreRefused => refused(22, Layer::Store, Status::ServerError, UNEXPECTED),
-            Outcome::BadSetting => silent(23, Layer::Making),
+        use Context::Approver;
+        use Status::{BadRange, Forbidden, NotImplemented, ServerError, Unavailable};
+        let (number, layer, place, answer) = match self {
+            Outcome::Done => (0, Layer::Clear, 0, Answer::Accepted),
+            Outcome::ShortPage => (1, Layer::Page, 0, Answer::Silent),
+            Outcome::UnfinishedHead => (2, Layer::Text, 0, Answer::Silent),
+            Outcome::BadHead { line } => (3, Layer::Text, line, INVALID),
+            Outcome::RepeatedField { line } => (4, Layer::Text, line, INVALID),
+            Outcome::BadPacket { line } => (5, Layer::Protocol, line, INVALID),
+            Outcome::UploadsOff => (6, Layer::Protocol, 0, refused(NotImplemented, DENIED)),
+            Outcome::NoSharedProtocol => (7, Layer::Protocol, 0, INVALID),
+            Outcome::FolderDestination => (8, Layer::Protocol, 0, INVALID),
+            Outcome::NoSession => (9, Layer::Session, 0, refused(ServerError, NO_SESSION)),
+            Outcome::AtApprover => (10, Layer::Session, 0, refused(Unavailable, AT_APPROVER)),
+            Outcome::Incomplete => (11, Layer::Session, 0, INVALID),
+            Outcome::WrongRange { line } => (12, Layer::Session, line, INVALID),
+            Outcome::TooLarge => (13, Layer::Session, 0, refused(ServerError, TOO_LARGE)),
+            Outcome::Gap => (14, Layer::Session, 0, refused(BadRange, GAP)),
+            Outcome::DestinationStands => (15, Layer::Session, 0, refused(Forbidden, DENIED)),
+            Outcome::TooManySessions => (16, Layer::Session, 0, refused(Unavailable, CROWDED)),
+            Outcome::SerialsSpent => (17, Layer::Session, 0, refused(Unavailable, SPENT)),
+            Outcome::StoreFull => (18, Layer::Store, 0, refused(ServerError, STORE_FULL)),
+            Outcome::CutBody => (19, Layer::Session, 0, Answer::Silent),
+            Outcome::Rejected { code } => (20, Layer::Approver, 0, by(Approver, ServerError, code)),
+            Outcome::BadReplyAddress => (21, Layer::Approver, 0, INVALID),
+            Outcome::StoreRefused => (22, Layer::Store, 0, refused(ServerError, UNEXPECTED)),
+            Outcome::BadSetting => (23, Layer::Making, 0, Answer::Silent),
+        };
+        Report {
+            number,
+            layer,
+            place,
+            answer,
         }
+    }
+}
+
+// What came of a call, in words.
+impl fmt::Display for Outcome {
+    fn fmt<W: fmt::Write>(&self, f: &mut fmt::Formatter<W>) -> fmt::Result {
+        f.write_str(match self {
+            Outcome::Done => "done",
+            Outcome::ShortPage => "the page for the acknowledgement is too short",
+            Outcome::UnfinishedHead => "the head has not ended yet",
+            Outcome::BadHead { .. } => "the head is bad",
+            Outcome::RepeatedField { .. } => "a known field stands twice",
+            Outcome::BadPacket { .. } => "the packet is bad",
+            Outcome::UploadsOff => "uploads are off",
+            Outcome::NoSharedProtocol => "no protocol is shared",
+            Outcome::FolderDestination => "the destination ends in a slash",
+            Outcome::NoSession => "no live session matches",
+            Outcome::AtApprover => "the session is at the approver",
+            Outcome::Incomplete => "the session is still receiving",
+            Outcome::WrongRange { .. } => "the range is wrong",
+            Outcome::TooLarge => "too large",
+            Outcome::Gap => "there is a gap before the fragment",
+            Outcome::DestinationStands => "the destination stands already",
+            Outcome::TooManySessions => "too many sessions are live",
+            Outcome::SerialsSpent => "the serials are spent",
+            Outcome::StoreFull => "the store is full",
+            Outcome::CutBody => "the body is cut off",
+            Outcome::Rejected { .. } => "the approver said no",
+            Outcome::BadReplyAddress => "the reply address is bad",
+            Outcome::StoreRefused => "the store broke its word",
+            Outcome::BadSetting => "a setting is broken",
+        })
+    }
+}
+
+impl Layer {
+    pub fn name(self) -> &'static str
+        ensures { result.now ≡ name_of self }
+    {
+        match self {
+            Layer::Clear => "clear",
+            Layer::Page => "page",
+            Layer::Text => "text",
+            Layer::Protocol => "protocol",
+            Layer::Session => "session",
+            Layer::Store => "store",
+            Layer::Approver => "approver",
+            Layer::Making => "making",
+        }
+    }
+}
+
+impl fmt::Display for Layer {
+    fn fmt<W: fmt::Write>(&self, f: &mut fmt::Formatter<W>) -> fmt::Result {
+        f.write_str(self.name())
     }
 }
 
@@ -209,18 +239,10 @@ impl Status {
     pub fn number(self) -> u16
         ensures { result ≡ number_of self }
     {
-        match self {
-            Status::Ok => 200,
-            Status::BadRequest => 400,
-            Status::Forbidden => 403,
-            Status::BadRange => 416,
-            Status::ServerError => 500,
-            Status::NotImplemented => 501,
-            Status::Unavailable => 503,
-        }
+        self as u16
     }
 
-    // The reason phrase that the standard prints for the status.
+    // The reason phrase that the standard prints for the status, as the bytes that go into a page.
     pub fn phrase(self) -> &'static [u8]
         ensures { result.now ≡ phrase_of self }
     {
@@ -240,9 +262,6 @@ impl Context {
     pub fn number(self) -> u8
         ensures { result ≡ context_of self }
     {
-        match self {
-            Context::Intake => 5,
-            Context::Approver => 7,
-        }
+        self as u8
     }
 }

@@ -3,10 +3,10 @@ use Rattle.std.proofs.Common.{◌≡◌, ℕ, zero, suc, ◌<◌, ◌≤◌, Boo
 use Rattle.std.proofs.lemmas.List.{take-append-drop, take_at, drop_at, take_all, drop_all, length-take-le, append-nil}
 use Rattle.std.proofs.lemmas.List.Sums.{prefix_len-le-length}
 use Rattle.std.proofs.lemmas.Bool.{and_left, cases_eq, eqb-true, eqb-false, ne_eqb, cond-false, cases_Bool}
-use Rattle.std.specs.List.{prefix_len}
+use Rattle.std.specs.List.{prefix_len, list_all}
 use Rattle.std.specs.Str.Parse.{digits_value}
-use Rattle.text.specs.Bytes.{divider, every}
-use Rattle.text.proofs.Runs.{leading-append, leading-none, leading-every}
+use Rattle.text.specs.Bytes.{divider}
+use Rattle.text.proofs.Runs.{leading-append, leading-none, leading-all}
 use Rattle.ids.specs.Ids.{id_of, both, part_of, site_shape, serial_shape, fits, digits_at}
 use Rattle.ids.specs.declared.SessionId.{SessionId}
 use Rattle.ids.proofs.Texts.{not-long}
@@ -49,7 +49,7 @@ list-long v [] h = absurd h
 list-long v (id ∷ []) h = omega (arith, id-long v id h)
 list-long v (id ∷ next ∷ ids) h = omega (arith, ap length h.0.is, length-append h.0.text (h.0.gap ++ h.0.rest), id-long h.0.text id h.0.reads)
 
-after-gap : (next : List ℕ → Option Bool) (found : Bool) (gap rest : List ℕ) → 0 < length gap → every divider gap ≡ true → divider (get_or rest 0 0) ≡ false → after_with next found (gap ++ rest) ≡ next rest
+after-gap : (next : List ℕ → Option Bool) (found : Bool) (gap rest : List ℕ) → 0 < length gap → list_all divider gap ≡ true → divider (get_or rest 0 0) ≡ false → after_with next found (gap ++ rest) ≡ next rest
 after-gap next found [] rest some all other = absurd (omega arith)
 after-gap next found (x ∷ gap) rest some all other =
     let g = x ∷ gap in
@@ -103,7 +103,7 @@ told-link v id found b k reads k-is some r = more r.ids r.reads r.told where
     is = sym (take-append-drop 38 v) ∙ ap (λ l. take 38 v ++ l) (sym (take-append-drop k t));
     reads = reads;
     parted = omega (arith, length-take-le k t (omega (arith, prefix_len-le-length divider t)), some);
-    dividers = ap (λ n. every divider (take n t)) k-is ∙ leading-every divider t;
+    dividers = ap (λ n. list_all divider (take n t)) k-is ∙ leading-all divider t;
   }
 
   more : (ids : List SessionId) → ListText (drop k t) ids → b ≡ ((found || ours id) || any_ours ids) → Told v found b

@@ -44,7 +44,3 @@ after_more b (x ∷ s) n e some =
 pub after_none : (b : Bool) (s : List ℕ) (n : ℕ) → 0 < length s → n ≡ prefix_len divider s → n ≡ 0 → after_from (length s) b s ≡ None
 after_none b [] n h e z = absurd (omega arith)
 after_none b (x ∷ s) n h e z = cond-true (eqb (prefix_len divider (x ∷ s)) 0) _ _ (ap (λ m. eqb m 0) (sym e ∙ z))
-
-pub after-end : (b : Bool) (s : List ℕ) → length s ≡ 0 → after_from (length s) b s ≡ Some b
-after-end b [] e = refl
-after-end b (x ∷ s) e = absurd (omega arith)

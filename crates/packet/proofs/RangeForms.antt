@@ -6,12 +6,12 @@ use Rattle.std.proofs.lemmas.Bool.{and_parts, and_from, ltb-true, lt-ltb, leb-tr
 use Rattle.std.proofs.lemmas.List.Sums.{prefix_len-le-length}
 use Rattle.std.specs.Char.{is_ascii_digit, to_ascii_lowercase}
 use Rattle.std.specs.Str.Parse.{digits_value}
-use Rattle.std.specs.List.{prefix_len}
+use Rattle.std.specs.List.{prefix_len, list_all}
 use Rattle.std.specs.Str.{all_ascii_digits}
-use Rattle.text.specs.Bytes.{blank, every}
+use Rattle.text.specs.Bytes.{blank}
 use Rattle.text.specs.Words.{same_letters}
 use Rattle.text.specs.Numbers.{writes_number, decimal_of}
-use Rattle.text.proofs.Runs.{leading-append, leading-none, leading-every}
+use Rattle.text.proofs.Runs.{leading-append, leading-none, leading-all}
 use Rattle.packet.specs.declared.ranges.Range.{Range}
 use Rattle.packet.specs.Ranges.{Rest, with_rest, cut_at, before_mark, total_of, last_of, first_of, span_of, after_blanks, range_of}
 use Rattle.packet.specs.Forms.{RangeText}
@@ -21,16 +21,16 @@ cond-some true x e h = (refl, h)
 cond-some false x e h = absurd (let z : ◌≡◌ {A = ℕ} 0 1 = cc in omega arith)
 
 -- a number is made of digits, and of one at least
-digits-every : (s : List ℕ) → all_ascii_digits s ≡ true → every is_ascii_digit s ≡ true
-digits-every [] h = refl
-digits-every (b ∷ s) h = let p = and_parts (is_ascii_digit b) (all_ascii_digits s) h in and_from (is_ascii_digit b) (every is_ascii_digit s) p.0 (digits-every s p.1)
+digits-all : (s : List ℕ) → all_ascii_digits s ≡ true → list_all is_ascii_digit s ≡ true
+digits-all [] h = refl
+digits-all (b ∷ s) h = let p = and_parts (is_ascii_digit b) (all_ascii_digits s) h in and_from (is_ascii_digit b) (list_all is_ascii_digit s) p.0 (digits-all s p.1)
 
-number_digits : (s : List ℕ) (n : ℕ) → decimal_of s ≡ Some n → (0 < length s) × (every is_ascii_digit s ≡ true)
+number_digits : (s : List ℕ) (n : ℕ) → decimal_of s ≡ Some n → (0 < length s) × (list_all is_ascii_digit s ≡ true)
 unfolding decimal_of
 number_digits s n e =
     let p = cond-some (writes_number s) (Some (digits_value 10 s)) n e in
     let q = and_parts (leb 1 (length s)) (leb (length s) 19 && all_ascii_digits s) p.0 in
-    (leb-true 1 (length s) q.0, digits-every s (and_parts (leb (length s) 19) (all_ascii_digits s) q.1).1)
+    (leb-true 1 (length s) q.0, digits-all s (and_parts (leb (length s) 19) (all_ascii_digits s) q.1).1)
 
 rest-is : (o : Option ℕ) (s : List ℕ) (r : Rest) → with_rest o s ≡ Some r → (o ≡ Some r.number) × (s ≡ r.rest)
 rest-is None s r e = absurd (let z : ◌≡◌ {A = ℕ} 0 1 = cc in omega arith)
@@ -127,7 +127,7 @@ range-sound v r e =
       is = sym (take-append-drop 5 v) ∙ ap (λ l. take 5 v ++ l) (sym (take-append-drop n rest) ∙ ap (λ l. take n rest ++ l) s.is);
       unit = p.0;
       parted = omega (arith, length-take-le n rest (prefix_len-le-length blank rest));
-      blanks = leading-every blank rest;
+      blanks = leading-all blank rest;
       from = s.from;
       to = s.to;
       of = s.of;
@@ -137,7 +137,7 @@ range-sound v r e =
 digit-first : (a rest : List ℕ) (n : ℕ) → decimal_of a ≡ Some n → prefix_len blank (a ++ rest) ≡ 0
 digit-first [] rest n e = absurd (omega (arith, (number_digits [] n e).0))
 digit-first (x ∷ a) rest n e =
-    let d = (and_parts (is_ascii_digit x) (every is_ascii_digit a) (number_digits (x ∷ a) n e).1).0 in
+    let d = (and_parts (is_ascii_digit x) (list_all is_ascii_digit a) (number_digits (x ∷ a) n e).1).0 in
     let low = leb-true 48 x (and_parts (leb 48 x) (leb x 57) d).0 in
     leading-none blank (x ∷ (a ++ rest)) (or_from (eqb x 32) (eqb x 9) (ne_eqb x 32 (λ h. omega arith)) (ne_eqb x 9 (λ h. omega arith)))
 

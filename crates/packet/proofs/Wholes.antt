@@ -8,7 +8,7 @@ use Rattle.head.specs.Grammar.{join_lines}
 use Rattle.head.proofs.Wholes as whole
 use Rattle.packet.specs.declared.Fault.{Fault}
 use Rattle.packet.specs.Judging.{and_then, judged_of}
-use Rattle.packet.specs.declared.Packet.{Packet}
+use Rattle.packet.specs.declared.request.Packet.{Packet}
 use Rattle.packet.specs.Packets.{Request, request_from, with_head, packet_of, request, seen}
 use Rattle.packet.specs.Laws.{IsRequest, Exact, Passed}
 use Rattle.packet.proofs.NeedForms.{judged-sound, judged-complete, then_ok}

@@ -1,5 +1,6 @@
 -- How the values of the known fields are written, and what each type of request needs.
 use Rattle.std.specs.Prelude.{◌≡◌, ℕ, ◌<◌, Bool, true, false, ◌||◌, List, [], ◌∷◌, ◌++◌, length, IfSome, Some, codes}
+use Rattle.std.specs.List.{list_all}
 use Rattle.text.specs.Bytes as bytes
 use Rattle.text.specs.Words.{same_letters}
 use Rattle.text.specs.Numbers.{decimal_of}
@@ -21,7 +22,7 @@ pub record RangeText (v : List ℕ) (r : Range) : Type 0 where
   pub is : v ≡ word ++ (gap ++ (a ++ (45 ∷ (b ++ (47 ∷ t)))))
   pub unit : same_letters word (codes "bytes") ≡ true
   pub parted : 0 < length gap
-  pub blanks : bytes.every bytes.blank gap ≡ true
+  pub blanks : list_all bytes.blank gap ≡ true
   pub from : decimal_of a ≡ Some r.first
   pub to : decimal_of b ≡ Some r.last
   pub of : decimal_of t ≡ Some r.total
@@ -34,7 +35,7 @@ pub record Link (v : List ℕ) (id : SessionId) : Type 0 where
   pub is : v ≡ text ++ (gap ++ rest)
   pub reads : id_of text ≡ Some id
   pub parted : 0 < length gap
-  pub dividers : bytes.every bytes.divider gap ≡ true
+  pub dividers : list_all bytes.divider gap ≡ true
 
 -- a list of protocols: at least one id, and separators between the ids alone
 abbrev pub ListText : List ℕ → List SessionId → Type 0

@@ -4,7 +4,7 @@ use Rattle.head.specs.Heads.{Reading, head_of}
 use Rattle.head.specs.declared.Fault as text
 use Rattle.packet.specs.declared.Fault.{Fault}
 use Rattle.packet.specs.declared.Fault.TheVariants.{Text}
-use Rattle.packet.specs.declared.Packet.{Packet}
+use Rattle.packet.specs.declared.request.Packet.{Packet}
 use Rattle.packet.specs.declared.judging.Action.{Action}
 use Rattle.packet.specs.declared.judging.Judged.{Judged}
 use Rattle.packet.specs.Judging.{and_then, judged_of}

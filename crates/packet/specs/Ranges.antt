@@ -1,20 +1,20 @@
 -- A range of bytes: the word "bytes", one or more blanks, and a-b/T.
 use Rattle.std.specs.Prelude.{ℕ, ◌+◌, cond, ◌&&◌, List, length, take, drop, Some, None, codes, Option, ◌==◌, nat_le, nat_lt, slice_index}
+use Rattle.std.specs.Borrow.{Bor}
 use Rattle.std.specs.Char.{is_ascii_digit}
 use Rattle.std.specs.List.{prefix_len}
 use Rattle.text.specs.Bytes.{blank}
 use Rattle.text.specs.Words.{same_letters}
 use Rattle.text.specs.Numbers.{decimal_of}
 use Rattle.packet.specs.declared.ranges.Range.{Range}
-use Rattle.packet.specs.declared.ranges.Left.{Left}
 
 -- a number, and what follows the mark behind it
 pub record Rest : Type 0 where
   pub number : ℕ
   pub rest : List ℕ
 
-abbrev pub left_of : Left → Rest
-left_of l = record { number = l.number; rest = l.rest.now }
+abbrev pub rest_of : ℕ × Bor (List ℕ) → Rest
+rest_of p = record { number = p.0; rest = p.1.now }
 
 abbrev pub with_rest : Option ℕ → List ℕ → Option Rest
 with_rest None s = None

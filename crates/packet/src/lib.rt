@@ -9,25 +9,29 @@ ghost use Rattle.packet.specs.Laws.{Exact, Passed, Caseless};
 
 use crate::judging::judge;
 use head::read_head;
+use std::error::Error;
+use std::fmt;
 
 mod judging;
 mod protocols;
 mod ranges;
+mod request;
 
 pub use crate::judging::Action;
 pub use crate::ranges::Range;
+pub use crate::request::Packet;
 
 // What is wrong with a request.
-#[derive(Clone, Copy)]
+#[derive(Clone, Copy, Debug, PartialEq, Eq)]
 pub enum Fault {
     // its head
     Text(head::Fault),
-    // a known field, by the offset of its line; 0 where it is missing
+    // a known field, by the offset of its line; 0 where it is missing, since that is the place that is told then
     Field(usize),
 }
 
 impl Fault {
-    // Its number among all outcomes.
+    // Its number among all outcomes. A method, not a conversion: a number alone is no fault.
     pub fn number(self) -> u8
         ensures { result ≡ number_of self }
     {
@@ -48,6 +52,18 @@ impl Fault {
     }
 }
 
+impl fmt::Display for Fault {
+    fn fmt<W: fmt::Write>(&self, f: &mut fmt::Formatter<W>) -> fmt::Result {
+        match self {
+            Fault::Text(fault) => fault.fmt(f),
+            Fault::Field(0) => f.write_str("a field that the request needs is missing"),
+            Fault::Field(_) => f.write_str("a field that the request needs has a bad value"),
+        }
+    }
+}
+
+impl Error for Fault {}
+
 impl From<head::Fault> for Fault {
     ghost from_gives = { λ e r. r ≡ Text e };
 
@@ -56,24 +72,11 @@ impl From<head::Fault> for Fault {
     }
 }
 
-// A request that was read. It borrows from the input.
-#[derive(Clone, Copy)]
-pub struct Packet<'a> {
-    pub path: &'a [u8],
-    pub action: Action,
-    // the bytes of the head, its empty line among them
-    pub head_size: usize,
-    // the bytes of the body that were announced
-    pub content_length: u64,
-    // those that came
-    pub body: &'a [u8],
-}
-
 fn body_of(rest: &[u8], announced: u64) -> &[u8]
     ensures { result.now ≡ take announced rest.now }
 {
     let present = announced.min(rest.len() as u64) as usize;
-    &rest[0..present]
+    &rest[..present]
 }
 
 fn parse(input: &[u8]) -> Result<Packet<'_>, Fault>

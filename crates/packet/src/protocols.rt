@@ -13,22 +13,15 @@ const OURS: SessionId = SessionId {
 
 const ID_SIZE: usize = 38;
 
-fn with_id(found: bool, id: SessionId) -> bool
-    ensures { result ≡ (found || ours id) }
-{
-    found || id.site == OURS.site && id.serial == OURS.serial
-}
-
+// Two functions in turn, as the list is: an id, then what parts it from the next.
 // Reads an id and what follows it; `found` says whether ours came before.
 #[cycle(read_after_read_ids)]
 fn read_ids(s: &[u8], found: bool) -> Option<bool>
     ensures { result ≡ ids_from (length s.now) found s.now }
 {
-    if s.len() < ID_SIZE {
-        return None;
-    }
-    let id = read_id(&s[0..ID_SIZE])?;
-    read_after(&s[ID_SIZE..], with_id(found, id))
+    let (id, rest) = s.split_at_checked(ID_SIZE)?;
+    let ours = read_id(id)? == OURS;
+    read_after(rest, found || ours)
 }
 
 // Reads what follows an id: the end, or a separator and the next.

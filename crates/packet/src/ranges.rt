@@ -1,7 +1,7 @@
 // A range of bytes, `bytes 0-9/10`.
 ghost use Rattle.std.specs.Prelude.{◌≡◌};
 ghost use Rattle.std.specs.Option.{option_map};
-ghost use Rattle.packet.specs.Ranges.{before_mark, span_of, range_of, left_of};
+ghost use Rattle.packet.specs.Ranges.{before_mark, span_of, range_of, rest_of};
 
 use text::{Kind, lead, read_decimal, same_letters};
 
@@ -13,54 +13,29 @@ pub struct Range {
 }
 
 // A number, and what follows the mark behind it.
-#[derive(Clone, Copy)]
-pub(crate) struct Left<'a> {
-    pub(crate) number: u64,
-    pub(crate) rest: &'a [u8],
-}
-
-fn number_before(s: &[u8], mark: u8) -> Option<Left<'_>>
-    ensures { option_map left_of result ≡ before_mark mark s.now }
+fn number_before(s: &[u8], mark: u8) -> Option<(u64, &[u8])>
+    ensures { option_map rest_of result ≡ before_mark mark s.now }
 {
-    let n = lead(Kind::Digit, s);
-    if n == s.len() {
-        return None;
-    }
-    if s[n] != mark {
-        return None;
-    }
-    let number = read_decimal(&s[0..n])?;
-    Some(Left {
-        number,
-        rest: &s[n + 1..],
-    })
+    let (digits, rest) = s.split_at(lead(Kind::Digit, s));
+    let rest = rest.strip_prefix(&[mark])?;
+    Some((read_decimal(digits)?, rest))
 }
 
 fn read_span(s: &[u8]) -> Option<Range>
     ensures { result ≡ span_of s.now }
 {
-    let first = number_before(s, b'-')?;
-    let last = number_before(first.rest, b'/')?;
-    let total = read_decimal(last.rest)?;
-    Some(Range {
-        first: first.number,
-        last: last.number,
-        total,
-    })
+    let (first, rest) = number_before(s, b'-')?;
+    let (last, rest) = number_before(rest, b'/')?;
+    let total = read_decimal(rest)?;
+    Some(Range { first, last, total })
 }
 
 pub(crate) fn read_range(value: &[u8]) -> Option<Range>
     ensures { result ≡ range_of value.now }
 {
-    if value.len() < 5 {
-        return None;
-    }
-    if !same_letters(&value[0..5], b"bytes") {
-        return None;
-    }
-    let rest = &value[5..];
+    let (unit, rest) = value.split_at_checked(5)?;
     let blanks = lead(Kind::Blank, rest);
-    if blanks == 0 {
+    if blanks == 0 || !same_letters(unit, b"bytes") {
         return None;
     }
     read_span(&rest[blanks..])

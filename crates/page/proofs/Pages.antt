@@ -2,7 +2,8 @@
 use Rattle.std.proofs.Common.{◌≡◌, ℕ, zero, suc, ◌+◌, ◌-◌, ◌≤◌, min, List, [], ◌∷◌, ◌++◌, length, take, drop, sym, refl, ap, ◌∙◌, subst, append-nil, arith, length-append, length-drop, length-take}
 use borrow.Rule.Slice.PartMut.{put_mid}
 use Rattle.std.proofs.lemmas.List.{drop_all, take_all, take-append-drop}
-use Rattle.page.specs.Page.{over, Puts}
+use Rattle.page.specs.declared.Writer.{Writer}
+use Rattle.page.specs.Page.{over, Puts, Wrote}
 
 over_none : (q : List ℕ) → over q [] ≡ q
 over_none [] = refl
@@ -48,19 +49,28 @@ puts-length {p} {s} {at = at} f =
     ap length f.bytes ∙ length-append (take at p) (over (drop at p) s)
     ∙ omega (arith, length_over (drop at p) s, length-take at p, length-drop at p)
 
-infixr 5 ◌then◌
-pub ◌then◌ : {p q r s t : List ℕ} {at mid end : ℕ} → Puts p at s q mid → Puts q mid t r end → Puts p at (s ++ t) r end
-◌then◌ {p = p} {s = s} {t = t} {at = at} {mid = mid} f g = record {
+puts_then : {p q r s t : List ℕ} {at mid end : ℕ} → Puts p at s q mid → Puts q mid t r end → Puts p at (s ++ t) r end
+puts_then {p = p} {s = s} {t = t} {at = at} {mid = mid} f g = record {
   bytes = g.bytes ∙ ap (λ l. take mid l ++ over (drop mid l) t) f.bytes ∙ laid_then p at mid s t f.ends;
   ends = omega (arith, f.ends, g.ends, puts-length f, length-append s t);
 }
 
--- the same bytes in other words
-pub puts-as : {p q s t : List ℕ} {at end : ℕ} → s ≡ t → Puts p at s q end → Puts p at t q end
-puts-as {p} {q} {at = at} {end = end} e f = subst (λ l. Puts p at l q end) e f
+infixr 5 ◌then◌
+pub ◌then◌ : {a b c : Writer} {s t : List ℕ} → Wrote a s b → Wrote b t c → Wrote a (s ++ t) c
+◌then◌ f g = record { puts = puts_then f.puts g.puts; same_page = g.same_page ∙ f.same_page }
 
-pub puts_none : (p : List ℕ) (at : ℕ) → Puts p at [] p at
+-- the same bytes in other words
+pub wrote-as : {a b : Writer} {s t : List ℕ} → s ≡ t → Wrote a s b → Wrote a t b
+wrote-as {a} {b} e f = subst (λ l. Wrote a l b) e f
+
+puts_none : (p : List ℕ) (at : ℕ) → Puts p at [] p at
 puts_none p at = record { bytes = sym (ap (λ l. take at p ++ l) (over_none (drop at p)) ∙ take-append-drop at p); ends = omega arith }
+
+pub wrote_from : {a b c : Writer} {s : List ℕ} → b ≡ a → Wrote b s c → Wrote a s c
+wrote_from {c = c} {s = s} e f = subst (λ a. Wrote a s c) e f
+
+pub wrote_none : (a : Writer) → Wrote a [] a
+wrote_none a = record { puts = puts_none a.page.now a.at; same_page = refl }
 
 -- nothing has a place past the page
 pub puts-past : (p s : List ℕ) (at : ℕ) → length p ≤ at → Puts p at s p at

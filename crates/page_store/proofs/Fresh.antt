@@ -16,10 +16,10 @@ total-one g n i h none =
     let z : total (λ _. 0) n ≡ 0 = total-none (λ _. 0) n (λ k l. refl) in
     omega (arith, total-change (λ _. 0) g n i h (λ k l ne. none k ne))
 
-get_or-blank : (n k : ℕ) → get_or (replicate n blank) k blank ≡ blank
-get_or-blank zero k = refl
-get_or-blank (suc n) zero = refl
-get_or-blank (suc n) (suc k) = get_or-blank n k
+get_or-blank : (none : Chain) → none ≡ blank → (n k : ℕ) → get_or (replicate n none) k blank ≡ blank
+get_or-blank none is zero k = refl
+get_or-blank none is (suc n) zero = is
+get_or-blank none is (suc n) (suc k) = get_or-blank none is n k
 
 module _ (next : List ℕ) (link : (k : ℕ) → k < 1024 → get_or next k 0 ≡ k + 1) where
   line-below : (q p n : ℕ) → p + n ≤ 1024 → q < p → occurs q (follow next p n) ≡ 0
@@ -55,27 +55,27 @@ module _ (next : List ℕ) (link : (k : ℕ) → k < 1024 → get_or next k 0 �
       let e : get_or next p 0 ≡ p + 1 = link p (omega arith) in
       rw e (line_at (p + 1) n i (omega arith) (omega arith) ∙ omega arith)
 
-  module _ (n : ℕ) (pos : 1 ≤ n) (few : n ≤ 1024) (long : length next ≡ 1024) where
+  module _ (n : ℕ) (pos : 1 ≤ n) (few : n ≤ 1024) (long : length next ≡ 1024) (none : Chain) (is : none ≡ blank) where
     abbrev all : Chain
     all = record { head = 0; tail = n - 1; count = n }
 
     abbrev chains : List Chain
-    chains = set (replicate 49 blank) 48 all
+    chains = set (replicate 49 none) 48 all
 
-    long-chains : length (replicate 49 blank) ≡ 49
-    long-chains = length-replicate 49 blank
+    long-chains : length (replicate 49 none) ≡ 49
+    long-chains = length-replicate 49 none
 
     pub at-free : chain_of chains 48 ≡ all
-    at-free = get_or-set_same (replicate 49 blank) 48 all blank (omega (arith, long-chains))
+    at-free = get_or-set_same (replicate 49 none) 48 all blank (omega (arith, long-chains))
 
     pub at_other : (k : ℕ) → (k ≡ 48 → ⊥) → chain_of chains k ≡ blank
-    at_other k ne = get_or-set_other (replicate 49 blank) 48 k all blank ne ∙ get_or-blank 49 k
+    at_other k ne = get_or-set_other (replicate 49 none) 48 k all blank ne ∙ get_or-blank none is 49 k
 
     pub sound-new : Sound n next chains
     sound-new = record {
       few = few;
       links = long;
-      owners = length-set (replicate 49 blank) 48 all ∙ long-chains;
+      owners = length-set (replicate 49 none) 48 all ∙ long-chains;
       once = λ p.
           total-one (λ k. occurs p (pages_of next chains k)) 49 48 (omega arith) (λ k ne. ap (λ (x : Chain). occurs p (follow next x.head x.count)) (at_other k ne))
           ∙ (ap (λ (x : Chain). occurs p (follow next x.head x.count)) at-free

@@ -1,91 +1,112 @@
 -- A slot's pages handed over to a row: the meaning after it, and the facts that go on holding.
-use Rattle.std.proofs.Common.{◌≡◌, ℕ, ◌+◌, ◌*◌, ◌<◌, ◌≤◌, Bool, true, cond, ◌&&◌, ◌||◌, ltb, leb, ◌⊎◌, List, [], ◌++◌, length, get_or, take, set, Some, None, vec_items, sym, ap, ◌∙◌, subst, inl, inr, ⊎_elim, arith, get_or-set_other, get_or-set_same}
-use Rattle.std.specs.Str.{bytes_eq}
-use Rattle.std.proofs.lemmas.Bool.{cond-true, cond-false, lt-ltb, ltb-true, ltb-false, and_left, and_parts, and_from, or_left, cases_eq, cases_Bool, leb-true}
-use Rattle.std.proofs.lemmas.List.{length-set, take_all, drop_all, length-take-le}
+use Rattle.std.proofs.Common.{◌≡◌, ℕ, zero, suc, ◌+◌, ◌*◌, ◌<◌, ◌≤◌, Bool, true, false, cond, ◌&&◌, ◌||◌, ltb, leb, ◌⊎◌, List, [], ◌∷◌, ◌++◌, length, get_or, take, set, Some, None, Option, vec_items, sym, refl, ap, ◌∙◌, subst, inl, inr, ⊎_elim, arith, get_or-set_other, get_or-set_same}
+use Rattle.std.specs.List.{slice_get}
+use Rattle.std.specs.Option.{is_some, option_map, option_or}
+use Rattle.std.proofs.lemmas.Bool.{cond-true, cond-false, ltb-true, and_parts, cases_eq, cases_Bool, leb-true}
+use Rattle.std.proofs.lemmas.List.{length-set, take_all, drop_all}
+use Rattle.inline_bytes.specs.Contents.{contents}
+use Rattle.inline_bytes.specs.declared.held.InlineBytes.{InlineBytes}
 use Rattle.store.specs.Meaning.{Published, nameable}
 use Rattle.page_store.specs.declared.chain.Chain.{Chain}
-use Rattle.page_store.specs.declared.name.Name.{Name}
 use Rattle.page_store.specs.declared.state.PageStore.{PageStore}
 use Rattle.page_store.specs.Bytes.{content}
-use Rattle.page_store.specs.Names.{name_of, vacant, position, standing, target, Short}
+use Rattle.page_store.specs.Names.{title, row_with, vacancy, standing, target}
 use Rattle.page_store.specs.Pages.{count_of, pages_of, Moved}
 use Rattle.page_store.specs.State.{length_of, Sparing, Nothing, Single}
-use Rattle.page_store.specs.Store.{pages_at, owned, bytes_at, published_at, fits_under, meaning_of, Publishing}
+use Rattle.page_store.specs.Store.{pages_at, owned, bytes_at, entry, published_at, fits_under, row_for, meaning_of, Publishing}
 use Rattle.page_store.specs.Chains.{length-follow}
-use Rattle.page_store.specs.Rows.{position-same, position-is, position_at, position-before, vacancy, differ, agree}
+use Rattle.page_store.specs.Rows.{First, first_of, first-is, none_of, row_with-same, title-same, vacant_of, vacancy-stands}
 use Rattle.page_store.specs.Tables.{count-is}
 use Rattle.page_store.specs.Stores.{held_in, held_same, at_entry, entry-below}
 
--- what the row to publish under held before: the name, or none while the name stands nowhere
-pub record Own (names : List Name) (n : List ℕ) (e : ℕ) : Type 0 where
-  pub at : position names n ≡ e
-  pub name : name_of (get_or names e vacant) ≡ n
+slice_get-set_other : {X : Type 0} (xs : List X) (i j : ℕ) (x : X) → (j ≡ i → ⊥) → slice_get (set xs i x) j ≡ slice_get xs j
+slice_get-set_other [] i j x ne = refl
+slice_get-set_other (y ∷ ys) zero zero x ne = absurd (ne refl)
+slice_get-set_other (y ∷ ys) zero (suc j) x ne = refl
+slice_get-set_other (y ∷ ys) (suc i) zero x ne = refl
+slice_get-set_other (y ∷ ys) (suc i) (suc j) x ne = slice_get-set_other ys i j x (λ q. ne (ap suc q))
 
-pub record Vacant (names : List Name) (n : List ℕ) (e : ℕ) : Type 0 where
-  pub name : name_of (get_or names e vacant) ≡ []
-  pub nowhere : (j : ℕ) → j < 32 → name_of (get_or names j vacant) ≡ n → ⊥
+same-name : (m n : List ℕ) → ◌≡◌ {A = Option (List ℕ)} (Some m) (Some n) → m ≡ n
+same-name m n q = cc
 
-pub row-was : (names : List Name) (n : List ℕ) → length names ≡ 32 → target names n < 32 → Own names n (target names n) ⊎ Vacant names n (target names n)
-row-was names n len lt =
-    ⊎_elim
-    (λ t. let e : target names n ≡ position names n = cond-true (ltb (position names n) 32) (position names n) (position names []) t in
-    let p : position names n < 32 = ltb-true (position names n) 32 t in
-    inl (record { at = sym e; name = ap (λ (x : ℕ). name_of (get_or names x vacant)) e ∙ position_at names n (omega arith) }))
-    (λ f. let e : target names n ≡ position names [] = cond-false (ltb (position names n) 32) (position names n) (position names []) f in
-    let p : 32 ≤ position names n = ltb-false (position names n) 32 f in
-    inr (record { name = ap (λ (x : ℕ). name_of (get_or names x vacant)) e ∙ position_at names [] (omega arith); nowhere = λ j h. position-before names n j (omega arith) }))
-    (cases_Bool (ltb (position names n) 32))
+-- what the row to publish in held before: the name, or none while the name stands nowhere
+pub record Vacant (names : List (Option (InlineBytes 128))) (n : List ℕ) (e : ℕ) : Type 0 where
+  pub within : e < length names
+  pub name : title names e ≡ None
+  pub nowhere : (j : ℕ) → j < length names → title names j ≡ Some n → ⊥
 
--- the code's test is the rule's
-pub target_fits : (names : List Name) (n : List ℕ) → length names ≡ 32 → ltb (target names n) 32 ≡ (ltb (position names n) 32 || ltb (standing names) 32)
-target_fits names n len =
-    ⊎_elim
-    (λ t. ap (λ (x : ℕ). ltb x 32) (cond-true (ltb (position names n) 32) (position names n) (position names []) t) ∙ (t ∙ sym (or_left (ltb (position names n) 32) (ltb (standing names) 32) t)))
-    (λ f. ap (λ (x : ℕ). ltb x 32) (cond-false (ltb (position names n) 32) (position names n) (position names []) f)
-    ∙ (subst (λ (m : ℕ). ltb (position names []) m ≡ ltb (standing names) m) len (vacancy names)
-    ∙ sym (ap (λ (b : Bool). b || ltb (standing names) 32) f)))
-    (cases_Bool (ltb (position names n) 32))
+pub row-was : (names : List (Option (InlineBytes 128))) (n : List ℕ) (e : ℕ) → target names n ≡ Some e → First names n e ⊎ Vacant names n e
+row-was names n e is =
+    by-row (row_with names n) refl
+  where
+    by-row : (o : Option ℕ) → row_with names n ≡ o → First names n e ⊎ Vacant names n e
+    by-row (Some i) q = inl (first_of names n e (q ∙ (ap (λ (o : Option ℕ). option_or o (vacancy names)) (sym q) ∙ is)))
+    by-row None q =
+        let v = vacant_of names e (ap (λ (o : Option ℕ). option_or o (vacancy names)) (sym q) ∙ is) in
+        inr (record { within = v.0; name = v.1; nowhere = none_of names n q })
+
+target-below : (names : List (Option (InlineBytes 128))) (n : List ℕ) (e : ℕ) → target names n ≡ Some e → e < length names
+target-below names n e is = ⊎_elim (λ f. f.within) (λ v. v.within) (row-was names n e is)
+
+-- the code's question is the rule's
+some-or : (o p : Option ℕ) → is_some (option_or o p) ≡ (is_some o || is_some p)
+some-or None p = refl
+some-or (Some x) p = refl
+
+unless : (b : Bool) (o : Option ℕ) → is_some (cond b o None) ≡ (b && is_some o)
+unless true o = refl
+unless false o = refl
+
+apart : (a b c : Bool) → ((a && b) && c) ≡ (a && (b && c))
+apart true b c = refl
+apart false b c = refl
+
+pub row_for-fits : (s : PageStore) (k : ℕ) (n : List ℕ) → is_some (row_for s k n) ≡ fits_under s k n
+row_for-fits s k n =
+    let full : Bool = ltb k 16 && ltb 0 (length_of s.lengths k) in
+    unless (nameable n && full) (target s.names n)
+    ∙ (ap (λ (b : Bool). (nameable n && full) && b)
+    (some-or (row_with s.names n) (vacancy s.names)
+    ∙ ap (λ (b : Bool). is_some (row_with s.names n) || b) (vacancy-stands s.names ∙ ap (λ (m : ℕ). ltb (standing s.names) m) s.rows))
+    ∙ apart (nameable n) full (is_some (row_with s.names n) || ltb (standing s.names) 32))
 
 -- what the question's yes says
-pub record Can (s : PageStore) (k : ℕ) (n : List ℕ) : Type 0 where
+pub record Can (s : PageStore) (k : ℕ) (n : List ℕ) (e : ℕ) : Type 0 where
   pub named : nameable n ≡ true
   pub slot : k < 16
   pub some : 0 < length_of s.lengths k
-  pub row : target s.names n < 32
+  pub row : target s.names n ≡ Some e
+  pub within : e < 32
 
-pub can-parts : (s : PageStore) (k : ℕ) (n : List ℕ) → fits_under s k n ≡ true → Can s k n
-can-parts s k n e =
-    let tail : Bool = ltb (position s.names n) 32 || ltb (standing s.names) 32 in
+pub can-of : (s : PageStore) (k : ℕ) (n : List ℕ) (e : ℕ) → row_for s k n ≡ Some e → Can s k n e
+can-of s k n e q =
     let full : Bool = ltb k 16 && ltb 0 (length_of s.lengths k) in
-    let a = and_parts (nameable n) (full && tail) e in
-    let b = and_parts full tail a.1 in
-    let c = and_parts (ltb k 16) (ltb 0 (length_of s.lengths k)) b.0 in
+    ⊎_elim
+    (λ t. let a = and_parts (nameable n) full t in
+    let b = and_parts (ltb k 16) (ltb 0 (length_of s.lengths k)) a.1 in
+    let is : target s.names n ≡ Some e = sym (cond-true (nameable n && full) (target s.names n) None t) ∙ q in
     record {
       named = a.0;
-      slot = ltb-true k 16 c.0;
-      some = ltb-true 0 (length_of s.lengths k) c.1;
-      row = ltb-true (target s.names n) 32 (target_fits s.names n s.rows ∙ b.1);
-    }
+      slot = ltb-true k 16 b.0;
+      some = ltb-true 0 (length_of s.lengths k) b.1;
+      row = is;
+      within = omega (arith, target-below s.names n e is, s.rows);
+    })
+    (λ f. let x : None ≡ Some e = sym (cond-false (nameable n && full) (target s.names n) None f) ∙ q in absurd (cc))
+    (cases_Bool (nameable n && full))
 
 pub name-some : (n : List ℕ) → nameable n ≡ true → 0 < length n
 name-some n e = leb-true 1 (length n) (and_parts (leb 1 (length n)) (leb (length n) 128) e).0
 
-pub name-short : (n : List ℕ) → nameable n ≡ true → length n ≤ 128
-name-short n e = leb-true (length n) 128 (and_parts (leb 1 (length n)) (leb (length n) 128) e).1
-
 pub not-empty : (n : List ℕ) → nameable n ≡ true → [] ≡ n → ⊥
 not-empty n e q = let z : 0 ≡ length n = ap length q in omega (arith, name-some n e)
 
-module _ (s t : PageStore) (k : ℕ) (n : List ℕ) (a : Publishing s k (target s.names n) n t) (c : Can s k n) where
-  abbrev row : ℕ
-  row = target s.names n
-
+module _ (s t : PageStore) (k row : ℕ) (n : List ℕ) (a : Publishing s k row n t) (c : Can s k n row) where
   len-given : length_of t.lengths (16 + row) ≡ length_of s.lengths k
   len-given =
       ap (λ (l : List ℕ). get_or l (16 + row) 0) a.lengths
       ∙ (get_or-set_other (set s.lengths (16 + row) (length_of s.lengths k)) k (16 + row) 0 0 (omega (arith, c.slot))
-      ∙ get_or-set_same s.lengths (16 + row) (length_of s.lengths k) 0 (omega (arith, s.held, c.row)))
+      ∙ get_or-set_same s.lengths (16 + row) (length_of s.lengths k) 0 (omega (arith, s.held, c.within)))
 
   len-none : length_of t.lengths k ≡ 0
   len-none =
@@ -109,62 +130,66 @@ module _ (s t : PageStore) (k : ℕ) (n : List ℕ) (a : Publishing s k (target 
       ∙ (ap (λ (ps : List ℕ). content (vec_items t.region) ps (length_of s.lengths j)) (a.others j hj nr nk)
       ∙ ap (λ (v : List ℕ). content v (pages_at s j) (length_of s.lengths j)) (ap vec_items a.region))
 
-  same_row : (j : ℕ) (m : List ℕ) → (j ≡ row → ⊥) → bytes_eq (name_of (get_or t.names j vacant)) m ≡ bytes_eq (name_of (get_or s.names j vacant)) m
-  same_row j m ne = ap (λ (r : Name). bytes_eq (name_of r) m) (a.names j ne)
+  same_row : (j : ℕ) → (j ≡ row → ⊥) → title t.names j ≡ title s.names j
+  same_row j ne = title-same s.names t.names j (a.names j ne)
 
-  found : position t.names n ≡ row
+  at_own : (j : ℕ) → j ≡ row → title t.names j ≡ Some n
+  at_own j e = ap (title t.names) e ∙ a.named
+
+  found : row_with t.names n ≡ Some row
   found =
-      ⊎_elim
-      (λ o. position-same s.names t.names n (t.rows ∙ sym s.rows)
-      (λ j h. ⊎_elim
-      (λ e. agree (name_of (get_or t.names j vacant)) n (ap (λ (x : ℕ). name_of (get_or t.names x vacant)) e ∙ a.named)
-      ∙ sym (agree (name_of (get_or s.names j vacant)) n (ap (λ (x : ℕ). name_of (get_or s.names x vacant)) e ∙ o.name)))
-      (λ ne. same_row j n ne)
-      (cases_eq j row))
-      ∙ o.at)
-      (λ v. position-is t.names n row (omega (arith, t.rows, c.row)) a.named
-      (λ j lt q. v.nowhere j (omega (arith, c.row)) (sym (ap name_of (a.names j (omega arith))) ∙ q)))
-      (row-was s.names n s.rows c.row)
+      first-is t.names n row (record {
+        within = omega (arith, t.rows, c.within);
+        name = a.named;
+        before = λ j h q. ⊎_elim
+            (λ f. f.before j h (sym (same_row j (omega arith)) ∙ q))
+            (λ v. v.nowhere j (omega (arith, s.rows, c.within)) (sym (same_row j (omega arith)) ∙ q))
+            (row-was s.names n row c.row);
+      })
 
-  stays : (m : List ℕ) → nameable m ≡ true → (m ≡ n → ⊥) → position t.names m ≡ position s.names m
-  stays m nm ne =
-      position-same s.names t.names m (t.rows ∙ sym s.rows)
+  -- the row had no other name
+  own : (m : List ℕ) → (m ≡ n → ⊥) → title s.names row ≡ Some m → ⊥
+  own m ne q =
+      ⊎_elim
+      (λ f. ne (same-name m n (sym q ∙ f.name)))
+      (λ v. let x : None ≡ Some m = sym v.name ∙ q in cc)
+      (row-was s.names n row c.row)
+
+  stays : (m : List ℕ) → (m ≡ n → ⊥) → row_with t.names m ≡ row_with s.names m
+  stays m ne =
+      row_with-same s.names t.names m (t.rows ∙ sym s.rows)
       (λ j h. ⊎_elim
-      (λ e. differ (name_of (get_or t.names j vacant)) m (λ q. ne (sym q ∙ (ap (λ (x : ℕ). name_of (get_or t.names x vacant)) e ∙ a.named)))
-      ∙ sym (differ (name_of (get_or s.names j vacant)) m
-      (λ q. ⊎_elim
-      (λ o. ne (sym q ∙ (ap (λ (x : ℕ). name_of (get_or s.names x vacant)) e ∙ o.name)))
-      (λ v. not-empty m nm (sym (ap (λ (x : ℕ). name_of (get_or s.names x vacant)) e ∙ v.name) ∙ q))
-      (row-was s.names n s.rows c.row))))
-      (λ nr. same_row j m nr)
+      (λ e. (
+        λ q. absurd (ne (same-name m n (sym q ∙ at_own j e))),
+        λ q. absurd (own m ne (ap (title s.names) (sym e) ∙ q)),
+      ))
+      (λ nr. (λ q. sym (same_row j nr) ∙ q, λ q. same_row j nr ∙ q))
       (cases_eq j row))
 
   pub published : Published (meaning_of s) k n (meaning_of t)
   published = record {
     stored =
-        ap (λ (p : ℕ). published_at t (cond (nameable n && ltb p 32) (Some p) None)) found
-        ∙ (ap (published_at t) (cond-true (nameable n && ltb row 32) (Some row) None (and_from (nameable n) (ltb row 32) c.named (lt-ltb row 32 c.row)))
-        ∙ ap Some (bytes-given ∙ sym (held_in s k c.slot)));
+        ap (published_at t) (cond-true (nameable n) (row_with t.names n) None c.named ∙ found)
+        ∙ ap Some (bytes-given ∙ sym (held_in s k c.slot));
     emptied = held_in t k c.slot ∙ ap (λ (x : ℕ). content (vec_items t.region) (pages_at t k) x) len-none;
     others = λ j ne. held_same s t j (λ hj. bytes-kept j (omega arith) ne (omega arith));
     names = λ m ne. ⊎_elim
-        (λ nm. ap (λ (p : ℕ). published_at t (cond (nameable m && ltb p 32) (Some p) None)) (stays m nm ne)
-        ∙ at_entry s t (nameable m && ltb (position s.names m) 32) (position s.names m)
-        (λ b. let p : position s.names m < 32 = entry-below s.names m b in
-        bytes-kept (16 + position s.names m) (omega arith) (omega (arith, c.slot))
-        (λ q. let i : position s.names m ≡ row = omega arith in
-        ne (sym (position_at t.names m (omega (arith, stays m nm ne, t.rows))) ∙ (ap (λ (x : ℕ). name_of (get_or t.names x vacant)) (stays m nm ne ∙ i) ∙ a.named)))))
-        (λ nm. ap (published_at t) (cond-false (nameable m && ltb (position t.names m) 32) (Some (position t.names m)) None (and_left (nameable m) (ltb (position t.names m) 32) nm))
-        ∙ sym (ap (published_at s) (cond-false (nameable m && ltb (position s.names m) 32) (Some (position s.names m)) None (and_left (nameable m) (ltb (position s.names m) 32) nm))))
+        (λ nm. ap (λ (o : Option ℕ). published_at t (cond (nameable m) o None)) (stays m ne)
+        ∙ at_entry s t (entry s.names m)
+        (λ f q. let b = entry-below s m f q in
+        bytes-kept (16 + f) (omega (arith, b.2)) (omega (arith, c.slot))
+        (λ x. let i : f ≡ row = omega arith in own m ne (ap (title s.names) (sym i) ∙ (first_of s.names m f b.1).name))))
+        (λ nm. ap (published_at t) (cond-false (nameable m) (row_with t.names m) None nm)
+        ∙ sym (ap (published_at s) (cond-false (nameable m) (row_with s.names m) None nm)))
         (cases_Bool (nameable m));
   }
 
 -- the facts of the store after the two moves and the writes
-module _ (s : PageStore) (k e : ℕ) (n : List ℕ) (can : Can s k n) (is : e ≡ target s.names n) (new : Name) (name-is : name_of new ≡ n) (len_is : new.len ≡ length n) (long : length new.bytes ≡ 128)
+module _ (s : PageStore) (k e : ℕ) (n : List ℕ) (can : Can s k n e) (new : Option (InlineBytes 128)) (name-is : option_map contents new ≡ Some n)
     (next₁ : List ℕ) (chains₁ : List Chain) (d₁ : Moved s.table.next s.table.chains 48 (16 + e) (owned s (16 + e)) next₁ chains₁)
     (next₂ : List ℕ) (chains₂ : List Chain) (d₂ : Moved next₁ chains₁ (16 + e) k (count_of chains₁ k) next₂ chains₂) where
   in_rows : e < 32
-  in_rows = subst (λ (x : ℕ). x < 32) (sym is) can.row
+  in_rows = can.within
 
   k_lt : k < 16
   k_lt = can.slot
@@ -203,14 +228,17 @@ module _ (s : PageStore) (k e : ℕ) (n : List ℕ) (can : Can s k n) (is : e �
   abbrev lengths₂ : List ℕ
   lengths₂ = set (set s.lengths (16 + e) (length_of s.lengths k)) k 0
 
-  abbrev names₂ : List Name
+  abbrev names₂ : List (Option (InlineBytes 128))
   names₂ = set s.names e new
 
-  pub named : name_of (get_or names₂ e vacant) ≡ n
-  named = ap name_of (get_or-set_same s.names e new vacant (omega (arith, in_rows, s.rows))) ∙ name-is
+  pub named : title names₂ e ≡ Some n
+  named = ap (option_map contents) (get_or-set_same s.names e new None (omega (arith, in_rows, s.rows))) ∙ name-is
 
-  pub names-kept : (f : ℕ) → (f ≡ e → ⊥) → get_or names₂ f vacant ≡ get_or s.names f vacant
-  names-kept f ne = get_or-set_other s.names e f new vacant ne
+  pub names-kept : (f : ℕ) → (f ≡ e → ⊥) → slice_get names₂ f ≡ slice_get s.names f
+  names-kept f ne = slice_get-set_other s.names e f new ne
+
+  title-kept : (f : ℕ) → (f ≡ e → ⊥) → title names₂ f ≡ title s.names f
+  title-kept f ne = title-same s.names names₂ f (names-kept f ne)
 
   at_row : length_of lengths₂ (16 + e) ≡ length_of s.lengths k
   at_row =
@@ -249,46 +277,31 @@ module _ (s : PageStore) (k e : ℕ) (n : List ℕ) (can : Can s k n) (is : e �
       (cases_eq j (16 + e)))
       (cases_eq j k)
 
-  pub short₂ : Short names₂
-  short₂ f h =
-      ⊎_elim
-      (λ q. subst (λ (r : Name). (r.len ≤ 128) × (length r.bytes ≡ 128)) (sym (ap (λ (x : ℕ). get_or names₂ x vacant) q ∙ get_or-set_same s.names e new vacant (omega (arith, in_rows, s.rows))))
-      (omega (arith, len_is, name-short n can.named), long))
-      (λ ne. subst (λ (r : Name). (r.len ≤ 128) × (length r.bytes ≡ 128)) (sym (names-kept f ne)) (s.short f (omega (arith, rows₂, s.rows))))
-      (cases_eq f e)
-
-  new-some : 0 < (get_or names₂ e vacant).len
-  new-some = subst (λ (r : Name). 0 < r.len) (sym (get_or-set_same s.names e new vacant (omega (arith, in_rows, s.rows)))) (omega (arith, len_is, name-some n can.named))
-
   pub nothing₂ : Nothing lengths₂ names₂
   nothing₂ f h z =
       let l = k_lt in
       ⊎_elim
-      (λ q. let y : (get_or names₂ e vacant).len ≡ 0 = ap (λ (x : ℕ). (get_or names₂ x vacant).len) (sym q) ∙ z in absurd (omega (arith, new-some)))
-      (λ ne. at-else (16 + f) (omega arith) (omega arith) ∙ s.nothing f h (sym (ap (λ (r : Name). r.len) (names-kept f ne)) ∙ z))
+      (λ q. let x : Some n ≡ None = sym named ∙ (ap (title names₂) (sym q) ∙ z) in absurd (cc))
+      (λ ne. at-else (16 + f) (omega arith) (omega arith) ∙ s.nothing f h (sym (title-kept f ne) ∙ z))
       (cases_eq f e)
 
   -- no other row has the name
-  only : (f : ℕ) → f < 32 → (f ≡ e → ⊥) → name_of (get_or s.names f vacant) ≡ n → ⊥
+  only : (f : ℕ) → f < 32 → (f ≡ e → ⊥) → title s.names f ≡ Some n → ⊥
   only f h ne q =
       ⊎_elim
-      (λ o. let same : name_of (get_or s.names f vacant) ≡ name_of (get_or s.names (target s.names n) vacant) = q ∙ sym o.name in
-      let lens : length (name_of (get_or s.names f vacant)) ≡ (get_or s.names f vacant).len =
-      length-take-le (get_or s.names f vacant).len (get_or s.names f vacant).bytes (omega (arith, s.short f (omega (arith, s.rows)))) in
-      let pos : 0 < (get_or s.names f vacant).len = omega (arith, lens, ap length q, name-some n can.named) in
-      ne (s.single f (target s.names n) (h, can.row, pos, same) ∙ sym is))
-      (λ v. v.nowhere f h q)
-      (row-was s.names n s.rows can.row)
+      (λ o. ne (s.single f e (h, in_rows, λ z. let x : None ≡ Some n = sym z ∙ q in cc, q ∙ sym o.name)))
+      (λ v. v.nowhere f (omega (arith, s.rows)) q)
+      (row-was s.names n e can.row)
 
   pub single₂ : Single names₂
   single₂ f g p =
       ⊎_elim
       (λ qf. ⊎_elim
       (λ qg. qf ∙ sym qg)
-      (λ ng. absurd (only g p.1 ng (sym (ap name_of (names-kept g ng)) ∙ (sym p.3 ∙ (ap (λ (x : ℕ). name_of (get_or names₂ x vacant)) qf ∙ named)))))
+      (λ ng. absurd (only g p.1 ng (sym (title-kept g ng) ∙ (sym p.3 ∙ (ap (title names₂) qf ∙ named)))))
       (cases_eq g e))
       (λ nf. ⊎_elim
-      (λ qg. absurd (only f p.0 nf (sym (ap name_of (names-kept f nf)) ∙ (p.3 ∙ (ap (λ (x : ℕ). name_of (get_or names₂ x vacant)) qg ∙ named)))))
-      (λ ng. s.single f g (p.0, p.1, subst (λ (r : Name). 0 < r.len) (names-kept f nf) p.2, sym (ap name_of (names-kept f nf)) ∙ (p.3 ∙ ap name_of (names-kept g ng))))
+      (λ qg. absurd (only f p.0 nf (sym (title-kept f nf) ∙ (p.3 ∙ (ap (title names₂) qg ∙ named)))))
+      (λ ng. s.single f g (p.0, p.1, λ z. p.2 (title-kept f nf ∙ z), sym (title-kept f nf) ∙ (p.3 ∙ title-kept g ng)))
       (cases_eq g e))
       (cases_eq f e)

@@ -1,3 +1,4 @@
 pub mod Fresh
 pub mod Handing
 pub mod Starts
+pub mod Walks

@@ -1,6 +1,8 @@
 pub mod Pages
+pub mod Stretches
 pub mod Bytes
 pub mod Names
+pub mod Owners
 pub mod State
 pub mod Store
 pub mod Examples

@@ -1,5 +1,5 @@
 -- A table stays sound when pages go from one owner to another.
-use Rattle.std.specs.Prelude.{◌≡◌, ℕ, zero, suc, ◌+◌, ◌-◌, ◌<◌, ◌≤◌, Bool, true, false, cond, List, [], ◌++◌, length, take, drop, set, ◌≢◌, nat_lt, slice_index, slice_index_or, slice_set, refl}
+use Rattle.std.specs.Prelude.{◌≡◌, ℕ, zero, suc, ◌+◌, ◌-◌, ◌<◌, ◌≤◌, Bool, true, false, cond, List, [], ◌++◌, length, take, drop, set, ◌⊎◌, ◌≢◌, nat_lt, slice_index, slice_index_or, slice_set, refl}
 use Rattle.std.proofs.Common.{sym, ap, subst, ◌∙◌, ⊎_elim, arith, add-zero, get_or-set_same, get_or-set_other}
 use Rattle.std.proofs.lemmas.Bool.{ltb-true, cond-false, cases_Bool, cases_eq, cases_lt}
 use Rattle.std.proofs.lemmas.List.{append-nil, take-append-drop, get_or-append_right, get_or-take, get_or-drop, length-set, get_or_past}
@@ -144,9 +144,6 @@ module _ (n : ℕ) (next : List ℕ) (chains : List Chain) (s : Sound n next cha
       let e = s.tails k pos in
       (e, subst (λ (x : ℕ). x < n) (sym e) (page-below n next chains s k (count_of chains k - 1) h (omega arith)))
 
-  pub count-le : (k : ℕ) → k < 49 → count_of chains k ≤ n
-  count-le k h = omega (arith, total-ge (count_of chains) 49 k h, s.whole)
-
   pub counts-le : (k j : ℕ) → k < 49 → j < 49 → (k ≢ j) → count_of chains k + count_of chains j ≤ n
   counts-le k j hk hj ne = omega (arith, total-ge-two (count_of chains) 49 k j hk hj ne, s.whole)
 
@@ -173,9 +170,6 @@ module _ (n : ℕ) (next : List ℕ) (chains : List Chain) (s : Sound n next cha
   in-from : from < length chains
   in-from = omega (arith, s.owners, v.giver)
 
-  pub cut_below : cut < n
-  cut_below = subst (λ (x : ℕ). x < n) (sym e) (page-below n next chains s from (m - 1) v.giver (omega (arith, v.enough)))
-
   -- what is left of the giver
   left_here : follow next (slice_index next cut) (count_of chains from - m) ≡ drop m (pages_of next chains from)
   left_here =
@@ -189,28 +183,28 @@ module _ (n : ℕ) (next : List ℕ) (chains : List Chain) (s : Sound n next cha
   past-owners a b k h = ap (λ (x : Chain). x.count) (get_or_past (slice_set (slice_set chains to a) from b) k blank (omega (arith, both-set a b)))
 
   pub started : count_of chains to ≡ 0
-      → Moved next chains to from m next (slice_set (slice_set chains to (record { head = (chain_of chains from).head; tail = cut; count = m })) from given)
+      → Moved next chains to from m next (slice_set (slice_set chains to (record { head = (chain_of chains from).head; tail = cut; count = count_of chains to + m })) from given)
   started none =
-      let a : Chain = record { head = (chain_of chains from).head; tail = cut; count = m } in
+      let a : Chain = record { head = (chain_of chains from).head; tail = cut; count = count_of chains to + m } in
       let t = at-to chains to from in-to in-from v.apart a given in
       let f = at_from chains to from in-to in-from v.apart a given in
       let o = at-else chains to from in-to in-from v.apart a given in
       let nothing : pages_of next chains to ≡ [] = ap (λ (x : ℕ). follow next (chain_of chains to).head x) none in
       record {
         gained = ap (λ (x : Chain). follow next x.head x.count) t
-            ∙ (sym (take-follow next (chain_of chains from).head m (count_of chains from) v.enough)
+            ∙ (ap (follow next (chain_of chains from).head) (omega arith) ∙ sym (take-follow next (chain_of chains from).head m (count_of chains from) v.enough)
             ∙ ap (λ (r : List ℕ). r ++ take m (pages_of next chains from)) (sym nothing));
         rest = ap (λ (x : Chain). follow next x.head x.count) f ∙ left_here;
         others = λ k h nt nf. ap (λ (x : Chain). follow next x.head x.count) (o k nt nf);
-        more = let q : count_of (slice_set (slice_set chains to a) from given) to ≡ m = ap (λ (x : Chain). x.count) t in omega (arith, none);
+        more = ap (λ (x : Chain). x.count) t;
         fewer = let q : count_of (slice_set (slice_set chains to a) from given) from ≡ count_of chains from - m = ap (λ (x : Chain). x.count) f in omega (arith, v.enough);
         counts = λ k nt nf. ap (λ (x : Chain). x.count) (o k nt nf);
       }
 
   pub sound-started : count_of chains to ≡ 0
-      → Sound n next (slice_set (slice_set chains to (record { head = (chain_of chains from).head; tail = cut; count = m })) from given)
+      → Sound n next (slice_set (slice_set chains to (record { head = (chain_of chains from).head; tail = cut; count = count_of chains to + m })) from given)
   sound-started none =
-      let a : Chain = record { head = (chain_of chains from).head; tail = cut; count = m } in
+      let a : Chain = record { head = (chain_of chains from).head; tail = cut; count = count_of chains to + m } in
       let after : List Chain = set (slice_set chains to a) from given in
       let t = at-to chains to from in-to in-from v.apart a given in
       let f = at_from chains to from in-to in-from v.apart a given in
@@ -281,6 +275,22 @@ module _ (n : ℕ) (next : List ℕ) (chains : List Chain) (s : Sound n next cha
           tails = tails-moved n next chains s to from m linked after v.taker v.giver v.apart appended (some) v.enough
               (ap (λ (x : Chain). x.tail) t ∙ e) (ap (λ (x : Chain). x.tail) f) o (past-owners a given);
         }
+
+  -- the table after the move: the taker's links and head are as before, but where it had no page or had some
+  abbrev pub after : ℕ → List Chain
+  after h = slice_set (slice_set chains to (record { head = h; tail = cut; count = count_of chains to + m })) from given
+
+  abbrev pub chained : List ℕ
+  chained = slice_set next (chain_of chains to).tail (chain_of chains from).head
+
+  pub spliced : (next' : List ℕ) (h : ℕ)
+      → ((count_of chains to ≡ 0) × (next' ≡ next) × (h ≡ (chain_of chains from).head)) ⊎ ((0 < count_of chains to) × (next' ≡ chained) × (h ≡ (chain_of chains to).head))
+      → Moved next chains to from m next' (after h) × Sound n next' (after h)
+  spliced next' h either =
+      ⊎_elim
+      (λ p. rw (p.1, p.2) (started p.0, sound-started p.0))
+      (λ p. rw (p.1, p.2) (appended p.0, sound-appended p.0))
+      either
 
 pub moved_none : (next : List ℕ) (chains : List Chain) (to from : ℕ) → Moved next chains to from 0 next chains
 moved_none next chains to from = record {

@@ -1,29 +1,31 @@
 -- The names that stand in a page store.
-use Rattle.std.specs.Prelude.{◌≡◌, ℕ, suc, ◌+◌, ◌<◌, ◌≤◌, cond, List, [], ◌∷◌, length, take, nat_lt, slice_index_or}
+use Rattle.std.specs.Prelude.{ℕ, Bool, false, List, Some, None, Option, is_some, position, count_by, slice_index_or}
+use Rattle.std.specs.Option.{is_none, option_map, option_or}
 use Rattle.std.specs.Str.{bytes_eq}
-use Rattle.page_store.specs.declared.name.Name.{Name}
+use Rattle.inline_bytes.specs.Contents.{contents}
+use Rattle.inline_bytes.specs.declared.held.InlineBytes.{InlineBytes}
 
--- the name in a row; a row without one has no bytes
-abbrev pub name_of : Name → List ℕ
-name_of row = take row.len row.bytes
+-- the name in row e
+abbrev pub title : List (Option (InlineBytes 128)) → ℕ → Option (List ℕ)
+title rows e = option_map contents (slice_index_or rows e None)
 
-abbrev pub vacant : Name
-vacant = record { len = 0; bytes = [] }
+-- a row has that name
+abbrev pub names : List ℕ → Option (InlineBytes 128) → Bool
+names name None = false
+names name (Some held) = bytes_eq (contents held) name
 
--- every row has the bytes that it says it has
-abbrev pub Short : List Name → Type 0
-Short names = (e : ℕ) → e < length names → ((slice_index_or names e vacant).len ≤ 128) × (length (slice_index_or names e vacant).bytes ≡ 128)
+-- the first row with a name
+abbrev pub row_with : List (Option (InlineBytes 128)) → List ℕ → Option ℕ
+row_with rows name = position (λ row. names name row) rows
 
--- the first row with a name, or the number of rows
-abbrev pub position : List Name → List ℕ → ℕ
-position [] name = 0
-position (row ∷ rows) name = cond (bytes_eq (name_of row) name) 0 (suc (position rows name))
+-- the first row without one
+abbrev pub vacancy : List (Option (InlineBytes 128)) → Option ℕ
+vacancy rows = position (λ row. is_none row) rows
 
 -- how many names stand
-abbrev pub standing : List Name → ℕ
-standing [] = 0
-standing (row ∷ rows) = cond (bytes_eq (name_of row) []) 0 1 + standing rows
+abbrev pub standing : List (Option (InlineBytes 128)) → ℕ
+standing rows = count_by (λ row. is_some row) rows
 
--- the row that a name is published under: its own, or one without a name
-abbrev pub target : List Name → List ℕ → ℕ
-target names name = cond (nat_lt (position names name) 32) (position names name) (position names [])
+-- the row that a name is published in: its own, or one without a name
+abbrev pub target : List (Option (InlineBytes 128)) → List ℕ → Option ℕ
+target rows name = option_or (row_with rows name) (vacancy rows)

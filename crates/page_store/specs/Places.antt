@@ -1,5 +1,5 @@
 -- Places of bytes: apart, in a row inside a page, and what one copy writes.
-use Rattle.std.specs.Prelude.{◌≡◌, ℕ, ◌+◌, ◌-◌, ◌*◌, ◌/◌, ◌%◌, ◌<◌, ◌≤◌, ◌⊎◌, List, ◌++◌, length, take, drop, ◌≢◌, slice_index, slice_index_or, refl}
+use Rattle.std.specs.Prelude.{◌≡◌, ℕ, ◌+◌, ◌-◌, ◌*◌, ◌/◌, ◌%◌, ◌<◌, ◌≤◌, ◌⊎◌, List, ◌++◌, length, take, drop, ◌≢◌, slice_index, slice_index_or}
 use Rattle.std.proofs.Common.{sym, ap, ◌∙◌, inl, inr, ⊎_elim, arith}
 use borrow.Rule.Slice.PartMut.{put_mid}
 use Rattle.std.proofs.lemmas.Bool.{cases_lt}
@@ -51,9 +51,6 @@ length-put a k xs ys le len =
 pub side : (a k i : ℕ) → ((j : ℕ) → j < k → i ≢ a + j) → (i < a) ⊎ (a + k ≤ i)
 side a k i none =
     ⊎_elim inl (λ ge. ⊎_elim (λ lt. absurd (none (i - a) (omega arith) (omega arith))) inr (cases_lt i (a + k))) (cases_lt i a)
-
-pub written_none : (r ps : List ℕ) (at : ℕ) (xs : List ℕ) → Written r ps at (take 0 xs) r
-written_none r ps at xs = record { long = refl; put = λ j h. absurd (omega arith); kept = λ i h. refl }
 
 -- one copy more: k bytes from place d of xs on, inside a page
 module _ (n : ℕ) (ps : List ℕ) (g : Pages n ps) (r xs now : List ℕ) (at d k from : ℕ) (long : length r ≡ 4096 * n)

@@ -1,108 +1,148 @@
--- Rows of names: comparing, finding, and writing one.
-use Rattle.std.specs.Prelude.{◌≡◌, ℕ, zero, suc, ◌+◌, ◌<◌, ◌≤◌, Bool, true, false, cond, ltb, List, [], ◌∷◌, length, drop, Decides, ◌≢◌, nat_lt, slice_index_or, refl}
-use Rattle.std.proofs.Common.{sym, ap, ◌∙◌, ⊎_elim, add-zero, arith}
-use Rattle.std.proofs.Math.Dec.{leb-suc-suc}
-use Rattle.std.specs.Str.{bytes_eq}
+-- Rows of names: where one stands, and how many do.
+use Rattle.std.specs.Prelude.{◌≡◌, ℕ, ◌+◌, ◌<◌, ◌≤◌, Bool, true, false, cond, not, List, [], ◌∷◌, length, Some, None, Option, ◌≢◌, is_some, nat_lt, count_by, slice_get, slice_index_or, refl}
+use Rattle.std.proofs.Common.{sym, ap, ◌∙◌, ⊎_elim, arith}
+use Rattle.std.specs.List.{prefix_len, position_or_len}
+use Rattle.std.specs.Option.{is_none, option_map, unwrap_or}
 use Rattle.std.proofs.lemmas.Slice.Eq.{bytes_eq-Decides}
-use Rattle.std.proofs.lemmas.Bool.{cases_Bool, cond-true, cond-false, both_ways, lt-ltb}
-use Rattle.std.proofs.lemmas.List.{drop_more}
-use Rattle.page_store.specs.declared.name.Name.{Name}
-use Rattle.page_store.specs.Names.{name_of, vacant, position, standing}
+use Rattle.std.proofs.lemmas.Bool.{cases_Bool, cond-true, cond-false, lt-ltb, le-ltb, ltb-true, ltb-false}
+use Rattle.std.proofs.lemmas.List.Sums.{position_or_len_is, fails_before_first, count_by-le-length, sum_by-cons}
+use Rattle.std.proofs.lemmas.List.Quantifiers.{position-Some}
+use Rattle.std.proofs.lemmas.Option.{unwrap_or-slice_get}
+use Rattle.inline_bytes.specs.Contents.{contents}
+use Rattle.inline_bytes.specs.declared.held.InlineBytes.{InlineBytes}
+use Rattle.page_store.specs.Names.{title, names, row_with, vacancy, standing}
 
-pub decided : (r s : Bool) (P : Type 0) → Decides r P → Decides s P → r ≡ s
-decided r s P d e =
+-- a row's test and what it says
+named : (n : List ℕ) (r : Option (InlineBytes 128)) → names n r ≡ true → option_map contents r ≡ Some n
+named n None t = let x : true ≡ false = sym t in absurd (cc)
+named n (Some h) t = ap Some ((bytes_eq-Decides (contents h) n).0 t)
+
+names-it : (n : List ℕ) (r : Option (InlineBytes 128)) → option_map contents r ≡ Some n → names n r ≡ true
+names-it n None q = absurd (cc)
+names-it n (Some h) q = (bytes_eq-Decides (contents h) n).1 (cc)
+
+unnamed : (n : List ℕ) (r : Option (InlineBytes 128)) → names n r ≡ false → option_map contents r ≢ Some n
+unnamed n r f q = let x : true ≡ false = sym (names-it n r q) ∙ f in cc
+
+names-no : (n : List ℕ) (r : Option (InlineBytes 128)) → (option_map contents r ≢ Some n) → names n r ≡ false
+names-no n r ne = ⊎_elim (λ t. absurd (ne (named n r t))) (λ f. f) (cases_Bool (names n r))
+
+-- row e is the first with a name
+pub record First (rows : List (Option (InlineBytes 128))) (n : List ℕ) (e : ℕ) : Type 0 where
+  pub within : e < length rows
+  pub name : title rows e ≡ Some n
+  pub before : (j : ℕ) → j < e → title rows j ≢ Some n
+
+pub first_of : (rows : List (Option (InlineBytes 128))) (n : List ℕ) (e : ℕ) → row_with rows n ≡ Some e → First rows n e
+first_of rows n e q =
+    let p = position-Some (λ (r : Option (InlineBytes 128)). names n r) rows e None q in
+    record {
+      within = p.0;
+      name = named n (slice_index_or rows e None) p.1;
+      before = λ j h. unnamed n (slice_index_or rows j None) (p.2 j h);
+    }
+
+pub first-is : (rows : List (Option (InlineBytes 128))) (n : List ℕ) (e : ℕ) → First rows n e → row_with rows n ≡ Some e
+first-is rows n e f =
+    let q : position_or_len (λ (r : Option (InlineBytes 128)). names n r) rows ≡ e =
+    position_or_len_is (λ (r : Option (InlineBytes 128)). names n r) rows e None (omega (arith, f.within))
+    (λ k l. names-no n (slice_index_or rows k None) (f.before k l)) (λ _. names-it n (slice_index_or rows e None) f.name) in
+    ap (λ (i : ℕ). cond (nat_lt i (length rows)) (Some i) None) q ∙ cond-true (nat_lt e (length rows)) (Some e) None (lt-ltb e (length rows) f.within)
+
+-- a name stands in no row
+pub none-is : (rows : List (Option (InlineBytes 128))) (n : List ℕ) → ((j : ℕ) → j < length rows → title rows j ≢ Some n) → row_with rows n ≡ None
+none-is rows n nowhere =
+    let m : ℕ = length rows in
+    let q : position_or_len (λ (r : Option (InlineBytes 128)). names n r) rows ≡ m =
+    position_or_len_is (λ (r : Option (InlineBytes 128)). names n r) rows m None (omega arith)
+    (λ k l. names-no n (slice_index_or rows k None) (nowhere k l)) (λ l. absurd (omega arith)) in
+    ap (λ (i : ℕ). cond (nat_lt i m) (Some i) None) q ∙ cond-false (nat_lt m m) (Some m) None (le-ltb m m (omega arith))
+
+pub none_of : (rows : List (Option (InlineBytes 128))) (n : List ℕ) → row_with rows n ≡ None → (j : ℕ) → j < length rows → title rows j ≢ Some n
+none_of rows n q j h =
+    let i : ℕ = position_or_len (λ (r : Option (InlineBytes 128)). names n r) rows in
     ⊎_elim
-    (λ t. t ∙ sym (e.1 (d.0 t)))
-    (λ f. ⊎_elim (λ t. absurd (both_ways r f (d.1 (e.0 t)))) (λ g. f ∙ sym g) (cases_Bool s))
-    (cases_Bool r)
+    (λ t. let x : Some i ≡ None = sym (cond-true (nat_lt i (length rows)) (Some i) None t) ∙ q in absurd (cc))
+    (λ f. let ge : length rows ≤ i = ltb-false i (length rows) f in
+    unnamed n (slice_index_or rows j None) (fails_before_first (λ (r : Option (InlineBytes 128)). names n r) rows j None (omega arith)))
+    (cases_Bool (nat_lt i (length rows)))
 
-pub position-within : (rows : List Name) (name : List ℕ) → position rows name ≤ length rows
-position-within [] name = omega arith
-position-within (row ∷ rows) name =
-    ⊎_elim
-    (λ t. rw t (omega arith))
-    (λ f. rw f (omega (arith, position-within rows name)))
-    (cases_Bool (bytes_eq (name_of row) name))
+untitled : (r : Option (InlineBytes 128)) → is_none r ≡ true → option_map contents r ≡ None
+untitled None t = refl
+untitled (Some h) t = absurd (cc)
 
--- what is left from row i on
-pub position-more : (rows : List Name) (name : List ℕ) (i : ℕ) → i < length rows → bytes_eq (name_of (slice_index_or rows i vacant)) name ≡ false
-    → i + position (drop i rows) name ≡ i + 1 + position (drop (i + 1) rows) name
-position-more rows name i h f =
-    ap (λ (x : List Name). i + position x name) (drop_more rows i vacant h)
-    ∙ (ap (λ (x : ℕ). i + x) (cond-false (bytes_eq (name_of (slice_index_or rows i vacant)) name) 0 (suc (position (drop (i + 1) rows) name)) f) ∙ omega arith)
+-- a row without a name
+pub vacant_of : (rows : List (Option (InlineBytes 128))) (e : ℕ) → vacancy rows ≡ Some e → (e < length rows) × (title rows e ≡ None)
+vacant_of rows e q =
+    let p = position-Some (λ (r : Option (InlineBytes 128)). is_none r) rows e None q in
+    (p.0, untitled (slice_index_or rows e None) p.1)
 
-pub position_here : (rows : List Name) (name : List ℕ) (i : ℕ) → i < length rows → bytes_eq (name_of (slice_index_or rows i vacant)) name ≡ true
-    → i + position (drop i rows) name ≡ i
-position_here rows name i h t =
-    ap (λ (x : List Name). i + position x name) (drop_more rows i vacant h)
-    ∙ (ap (λ (x : ℕ). i + x) (cond-true (bytes_eq (name_of (slice_index_or rows i vacant)) name) 0 (suc (position (drop (i + 1) rows) name)) t) ∙ add-zero i)
+-- two tables of which the same rows have a name
+pub row_with-same : (rows rows' : List (Option (InlineBytes 128))) (n : List ℕ) → length rows' ≡ length rows
+    → ((j : ℕ) → j < length rows → (title rows' j ≡ Some n → title rows j ≡ Some n) × (title rows j ≡ Some n → title rows' j ≡ Some n)) → row_with rows' n ≡ row_with rows n
+row_with-same rows rows' n e same =
+    by-row (row_with rows n) refl
+  where
+    by-row : (o : Option ℕ) → row_with rows n ≡ o → row_with rows' n ≡ row_with rows n
+    by-row None q = none-is rows' n (λ j h p. none_of rows n q j (omega arith) ((same j (omega arith)).0 p)) ∙ sym q
+    by-row (Some i) q =
+        let f = first_of rows n i q in
+        first-is rows' n i (record {
+          within = omega (arith, f.within);
+          name = (same i f.within).1 f.name;
+          before = λ j h p. f.before j h ((same j (omega (arith, f.within))).0 p);
+        }) ∙ sym q
 
--- two tables whose rows answer alike
-pub position-same : (rows rows' : List Name) (name : List ℕ) → length rows' ≡ length rows
-    → ((j : ℕ) → j < length rows → bytes_eq (name_of (slice_index_or rows' j vacant)) name ≡ bytes_eq (name_of (slice_index_or rows j vacant)) name)
-    → position rows' name ≡ position rows name
-position-same [] [] name e same = refl
-position-same [] (r ∷ rows') name e same = absurd (omega arith)
-position-same (r ∷ rows) [] name e same = absurd (omega arith)
-position-same (r ∷ rows) (r' ∷ rows') name e same =
-    let here : bytes_eq (name_of r') name ≡ bytes_eq (name_of r) name = same 0 (omega arith) in
-    let rest : position rows' name ≡ position rows name = position-same rows rows' name (omega arith) (λ j h. same (suc j) (omega arith)) in
-    ap (λ (b : Bool). cond b 0 (suc (position rows' name))) here ∙ ap (λ (x : ℕ). cond (bytes_eq (name_of r) name) 0 (suc x)) rest
-
-pub differ : (xs ys : List ℕ) → (xs ≢ ys) → bytes_eq xs ys ≡ false
-differ xs ys ne = ⊎_elim (λ t. absurd (ne ((bytes_eq-Decides xs ys).0 t))) (λ f. f) (cases_Bool (bytes_eq xs ys))
-
-pub agree : (xs ys : List ℕ) → xs ≡ ys → bytes_eq xs ys ≡ true
-agree xs ys e = (bytes_eq-Decides xs ys).1 e
-
-pub position_at : (rows : List Name) (name : List ℕ) → position rows name < length rows → name_of (slice_index_or rows (position rows name) vacant) ≡ name
-position_at [] name h = absurd (omega arith)
-position_at (r ∷ rows) name h =
-    ⊎_elim
-    (λ t. rw t ((bytes_eq-Decides (name_of r) name).0 t))
-    (λ f. let lt : position rows name < length rows = omega (arith, cond-false (bytes_eq (name_of r) name) 0 (suc (position rows name)) f) in
-    rw f (position_at rows name lt))
-    (cases_Bool (bytes_eq (name_of r) name))
-
-pub position-before : (rows : List Name) (name : List ℕ) (j : ℕ) → j < position rows name → name_of (slice_index_or rows j vacant) ≢ name
-position-before [] name j h e = omega arith
-position-before (r ∷ rows) name zero h e =
-    let z : position (r ∷ rows) name ≡ 0 = cond-true (bytes_eq (name_of r) name) 0 (suc (position rows name)) (agree (name_of r) name e) in
-    omega arith
-position-before (r ∷ rows) name (suc j) h e =
-    ⊎_elim
-    (λ t. let z : position (r ∷ rows) name ≡ 0 = cond-true (bytes_eq (name_of r) name) 0 (suc (position rows name)) t in omega arith)
-    (λ f. let q : position (r ∷ rows) name ≡ suc (position rows name) = cond-false (bytes_eq (name_of r) name) 0 (suc (position rows name)) f in
-    position-before rows name j (omega arith) e)
-    (cases_Bool (bytes_eq (name_of r) name))
-
-pub position-is : (rows : List Name) (name : List ℕ) (i : ℕ) → i < length rows → name_of (slice_index_or rows i vacant) ≡ name
-    → ((j : ℕ) → j < i → name_of (slice_index_or rows j vacant) ≢ name) → position rows name ≡ i
-position-is [] name i h e none = absurd (omega arith)
-position-is (r ∷ rows) name zero h e none = cond-true (bytes_eq (name_of r) name) 0 (suc (position rows name)) (agree (name_of r) name e)
-position-is (r ∷ rows) name (suc i) h e none =
-    cond-false (bytes_eq (name_of r) name) 0 (suc (position rows name)) (differ (name_of r) name (none 0 (omega arith)))
-    ∙ ap suc (position-is rows name i (omega arith) e (λ j l. none (suc j) (omega arith)))
+-- rows that are the same have the same name
+pub title-same : (rows rows' : List (Option (InlineBytes 128))) (e : ℕ) → slice_get rows' e ≡ slice_get rows e → title rows' e ≡ title rows e
+title-same rows rows' e q =
+    ap (option_map contents)
+    (sym (unwrap_or-slice_get rows' e None) ∙ (ap (λ (o : Option (Option (InlineBytes 128))). unwrap_or o None) q ∙ unwrap_or-slice_get rows e None))
 
 -- a row without a name stands exactly when fewer names than rows do
-cond-one : (b : Bool) → cond {A = ℕ} b 0 1 ≤ 1
+cond-one : (b : Bool) → cond {A = ℕ} b 1 0 ≤ 1
 cond-one true = omega arith
 cond-one false = omega arith
 
-pub standing-le : (rows : List Name) → standing rows ≤ length rows
-standing-le [] = omega arith
-standing-le (r ∷ rows) = omega (arith, standing-le rows, cond-one (bytes_eq (name_of r) []))
+count-cons : {X : Type 0} (q : X → Bool) (x : X) (xs : List X) → count_by q (x ∷ xs) ≡ cond (q x) 1 0 + count_by q xs
+count-cons q x xs = sum_by-cons (λ x. cond (q x) 1 0) x xs
 
-pub vacancy : (rows : List Name) → nat_lt (position rows []) (length rows) ≡ nat_lt (standing rows) (length rows)
-vacancy [] = refl
-vacancy (r ∷ rows) =
+prefix-le : {X : Type 0} (q : X → Bool) (xs : List X) → prefix_len q xs ≤ count_by q xs
+prefix-le q [] = omega arith
+prefix-le q (x ∷ xs) =
     ⊎_elim
-    (λ t. let z : position (r ∷ rows) [] ≡ 0 = cond-true (bytes_eq (name_of r) []) 0 (suc (position rows [])) t in
-    let q : cond {A = ℕ} (bytes_eq (name_of r) []) 0 1 ≡ 0 = cond-true (bytes_eq (name_of r) []) 0 1 t in
-    lt-ltb (position (r ∷ rows) []) (length (r ∷ rows)) (omega arith) ∙ sym (lt-ltb (standing (r ∷ rows)) (length (r ∷ rows)) (omega (arith, standing-le rows))))
-    (λ f. let z : position (r ∷ rows) [] ≡ suc (position rows []) = cond-false (bytes_eq (name_of r) []) 0 (suc (position rows [])) f in
-    let q : cond {A = ℕ} (bytes_eq (name_of r) []) 0 1 ≡ 1 = cond-false (bytes_eq (name_of r) []) 0 1 f in
-    let u : standing (r ∷ rows) ≡ suc (standing rows) = omega arith in
-    ap (λ (x : ℕ). ltb x (suc (length rows))) z ∙ (leb-suc-suc (suc (position rows [])) (length rows)
-    ∙ (vacancy rows ∙ (sym (leb-suc-suc (suc (standing rows)) (length rows)) ∙ ap (λ (x : ℕ). ltb x (suc (length rows))) (sym u)))))
-    (cases_Bool (bytes_eq (name_of r) []))
+    (λ t. omega (arith, count-cons q x xs, prefix-le q xs, cond-true {A = ℕ} (q x) 1 0 t, cond-true (q x) (1 + prefix_len q xs) 0 t))
+    (λ f. omega (arith, cond-false (q x) (1 + prefix_len q xs) 0 f))
+    (cases_Bool (q x))
+
+count-lt : {X : Type 0} (q : X → Bool) (xs : List X) → prefix_len q xs < length xs → count_by q xs < length xs
+count-lt q [] h = absurd (omega arith)
+count-lt q (x ∷ xs) h =
+    ⊎_elim
+    (λ t. let lt : prefix_len q xs < length xs = omega (arith, cond-true (q x) (1 + prefix_len q xs) 0 t) in
+    omega (arith, count-cons q x xs, count-lt q xs lt, cond-one (q x)))
+    (λ f. omega (arith, count-cons q x xs, count_by-le-length q xs, cond-false {A = ℕ} (q x) 1 0 f))
+    (cases_Bool (q x))
+
+not-not : (b : Bool) → not (not b) ≡ b
+not-not true = refl
+not-not false = refl
+
+count-same : {X : Type 0} (p q : X → Bool) → ((x : X) → p x ≡ q x) → (xs : List X) → count_by p xs ≡ count_by q xs
+count-same p q same [] = refl
+count-same p q same (x ∷ xs) = omega (arith, count-cons p x xs, count-cons q x xs, count-same p q same xs, ap (λ (b : Bool). cond {A = ℕ} b 1 0) (same x))
+
+is_some-cond : (b : Bool) (i : ℕ) → is_some (cond b (Some i) None) ≡ b
+is_some-cond true i = refl
+is_some-cond false i = refl
+
+pub vacancy-stands : (rows : List (Option (InlineBytes 128))) → is_some (vacancy rows) ≡ nat_lt (standing rows) (length rows)
+vacancy-stands rows =
+    let q : Option (InlineBytes 128) → Bool = λ r. not (is_none r) in
+    let same : count_by q rows ≡ standing rows = count-same q (λ r. is_some r) (λ r. not-not (is_some r)) rows in
+    is_some-cond (nat_lt (prefix_len q rows) (length rows)) (prefix_len q rows)
+    ∙ (⊎_elim
+    (λ t. t ∙ sym (lt-ltb (count_by q rows) (length rows) (count-lt q rows (ltb-true (prefix_len q rows) (length rows) t))))
+    (λ f. f ∙ sym (le-ltb (count_by q rows) (length rows) (omega (arith, prefix-le q rows, ltb-false (prefix_len q rows) (length rows) f))))
+    (cases_Bool (nat_lt (prefix_len q rows) (length rows)))
+    ∙ ap (λ (m : ℕ). nat_lt m (length rows)) same)

@@ -1,26 +1,26 @@
 -- What a page store means, and its own account of each change, to the last byte of the region.
-use Rattle.std.specs.Prelude.{◌≡◌, ℕ, ◌+◌, ◌-◌, ◌*◌, ◌%◌, ◌<◌, ◌≤◌, Bool, cond, ◌&&◌, ◌||◌, List, [], ◌++◌, length, Some, None, vec_items, vec_len, Option, ◌==◌, ◌≢◌, nat_le, nat_lt, slice_index_or, slice_set}
+use Rattle.std.specs.Prelude.{◌≡◌, ℕ, ◌+◌, ◌-◌, ◌*◌, ◌%◌, ◌<◌, ◌≤◌, Bool, cond, ◌&&◌, ◌||◌, List, [], ◌++◌, length, Some, None, vec_items, vec_len, Option, ◌==◌, ◌≢◌, is_some, nat_le, nat_lt, slice_get, slice_set}
+use Rattle.inline_bytes.specs.declared.held.InlineBytes.{InlineBytes}
 use Rattle.store.specs.Meaning.{Meaning, Change, nameable}
 use Rattle.store.specs.Meaning.Change.{adding, clearing, publishing}
-use Rattle.page_store.specs.declared.name.Name.{Name}
 use Rattle.page_store.specs.declared.state.PageStore.{PageStore}
 use Rattle.page_store.specs.Bytes.{content, Written}
-use Rattle.page_store.specs.Names.{name_of, vacant, position, standing, target}
-use Rattle.page_store.specs.Pages.{count_of, pages_of, Moved}
+use Rattle.page_store.specs.Names.{title, row_with, standing, target}
+use Rattle.page_store.specs.Owners.{pages_in, count_in, Spliced}
 use Rattle.page_store.specs.State.{length_of}
 
 abbrev pub pages_at : PageStore → ℕ → List ℕ
-pages_at s k = pages_of s.table.next s.table.chains k
+pages_at s k = pages_in s.table k
 
 abbrev pub owned : PageStore → ℕ → ℕ
-owned s k = count_of s.table.chains k
+owned s k = count_in s.table k
 
 abbrev pub bytes_at : PageStore → ℕ → List ℕ
 bytes_at s k = content (vec_items s.region) (pages_at s k) (length_of s.lengths k)
 
 -- the row of a name that stands
-abbrev pub entry : List Name → List ℕ → Option ℕ
-entry names n = cond (nameable n && nat_lt (position names n) 32) (Some (position names n)) None
+abbrev pub entry : List (Option (InlineBytes 128)) → List ℕ → Option ℕ
+entry names n = cond (nameable n) (row_with names n) None
 
 abbrev pub published_at : PageStore → Option ℕ → Option (List ℕ)
 published_at s (Some e) = Some (bytes_at s (16 + e))
@@ -32,7 +32,11 @@ room_of s k = 4096 * (owned s k + owned s 48) - length_of s.lengths k
 
 -- a slot with bytes fits under a name that stands, or while fewer than 32 names do
 abbrev pub fits_under : PageStore → ℕ → List ℕ → Bool
-fits_under s k n = nameable n && ((nat_lt k 16 && nat_lt 0 (length_of s.lengths k)) && (nat_lt (position s.names n) 32 || nat_lt (standing s.names) 32))
+fits_under s k n = nameable n && ((nat_lt k 16 && nat_lt 0 (length_of s.lengths k)) && (is_some (row_with s.names n) || nat_lt (standing s.names) 32))
+
+-- the row that a slot can be published under a name in
+abbrev pub row_for : PageStore → ℕ → List ℕ → Option ℕ
+row_for s k n = cond (nameable n && (nat_lt k 16 && nat_lt 0 (length_of s.lengths k))) (target s.names n) None
 
 abbrev pub meaning_of : PageStore → Meaning
 meaning_of s = record {
@@ -45,14 +49,14 @@ meaning_of s = record {
 -- bytes were added: free pages went behind the slot's own, and only the bytes' places in the region changed
 pub record Adding (s : PageStore) (k : ℕ) (xs : List ℕ) (t : PageStore) : Type 0 where
   pub region : Written (vec_items s.region) (pages_at t k) (length_of s.lengths k) xs (vec_items t.region)
-  pub pages : Moved s.table.next s.table.chains k 48 (owned t k - owned s k) t.table.next t.table.chains
+  pub pages : Spliced s.table k 48 (owned t k - owned s k) t.table
   pub lengths : t.lengths ≡ slice_set s.lengths k (length_of s.lengths k + length xs)
   pub names : t.names ≡ s.names
 
 -- a slot's pages went behind the free ones
 pub record Clearing (s : PageStore) (k : ℕ) (t : PageStore) : Type 0 where
   pub region : t.region ≡ s.region
-  pub pages : Moved s.table.next s.table.chains 48 k (owned s k) t.table.next t.table.chains
+  pub pages : Spliced s.table 48 k (owned s k) t.table
   pub lengths : t.lengths ≡ slice_set s.lengths k 0
   pub names : t.names ≡ s.names
 
@@ -69,13 +73,13 @@ pub record Publishing (s : PageStore) (k e : ℕ) (n : List ℕ) (t : PageStore)
   pub freed : pages_at t 48 ≡ pages_at s 48 ++ pages_at s (16 + e)
   pub others : (j : ℕ) → j < 48 → (j ≢ 16 + e) → (j ≢ k) → pages_at t j ≡ pages_at s j
   pub lengths : t.lengths ≡ slice_set (slice_set s.lengths (16 + e) (length_of s.lengths k)) k 0
-  pub named : name_of (slice_index_or t.names e vacant) ≡ n
-  pub names : (f : ℕ) → (f ≢ e) → slice_index_or t.names f vacant ≡ slice_index_or s.names f vacant
+  pub named : title t.names e ≡ Some n
+  pub names : (f : ℕ) → (f ≢ e) → slice_get t.names f ≡ slice_get s.names f
 
 abbrev pub Accounted : PageStore → Change → PageStore → Type 0
 Accounted s (adding k xs) t = Adding s k xs t
 Accounted s (clearing k) t = Clearance s k t
-Accounted s (publishing k n) t = Publishing s k (target s.names n) n t
+Accounted s (publishing k n) t = (e : ℕ) × ((target s.names n ≡ Some e) × Publishing s k e n t)
 
 -- 1 to 1,024 pages of 4,096 bytes fill a region of so many bytes
 abbrev pub fillable : ℕ → Bool

@@ -1,14 +1,15 @@
 -- What a page store's changes do to its meaning.
-use Rattle.std.specs.Prelude.{◌≡◌, ℕ, ◌+◌, ◌-◌, ◌*◌, ◌/◌, ◌%◌, ◌^◌, ◌<◌, ◌≤◌, Bool, true, false, cond, ◌&&◌, ◌||◌, ltb, List, [], ◌++◌, length, take, set, Some, None, vec_items, ◌≢◌, nat_lt, slice_index, slice_set, refl}
+use Rattle.std.specs.Prelude.{◌≡◌, ℕ, ◌+◌, ◌-◌, ◌*◌, ◌/◌, ◌%◌, ◌^◌, ◌<◌, ◌≤◌, Bool, true, false, ◌&&◌, ◌||◌, List, [], ◌++◌, length, take, set, Some, None, vec_items, Option, ◌≢◌, is_some, nat_lt, slice_index, slice_set, refl}
 use Rattle.std.proofs.Common.{sym, ap, subst, ◌∙◌, ⊎_elim, arith, add-zero, get_or-set_same, get_or-set_other}
-use Rattle.std.proofs.lemmas.Bool.{cond-true, cond-false, lt-ltb, le-ltb, ltb-true, and_left, and_right, and_parts, cases_lt, cases_eq}
+use Rattle.std.proofs.lemmas.Bool.{cond-true, cond-false, lt-ltb, le-ltb, and_left, and_right, cases_lt, cases_eq, cases_Bool}
 use Rattle.std.proofs.lemmas.List.{append-nil, get_or_append_left, set-get_or}
+use Rattle.inline_bytes.specs.declared.held.InlineBytes.{InlineBytes}
 use Rattle.store.specs.Meaning.{Added, Cleared, nameable}
 use Rattle.page_store.specs.declared.chain.Chain.{Chain}
-use Rattle.page_store.specs.declared.name.Name.{Name}
 use Rattle.page_store.specs.declared.state.PageStore.{PageStore}
 use Rattle.page_store.specs.Bytes.{place, content, Written}
-use Rattle.page_store.specs.Names.{position, standing}
+use Rattle.page_store.specs.Names.{row_with, standing}
+use Rattle.page_store.specs.Rows.{first_of}
 use Rattle.page_store.specs.Pages.{count_of, Moved}
 use Rattle.page_store.specs.State.{length_of, Sparing, Nothing}
 use Rattle.page_store.specs.Store.{pages_at, owned, bytes_at, entry, published_at, room_of, fits_under, meaning_of, Adding, Clearing}
@@ -50,7 +51,7 @@ law-fits s k =
 
 pub law-unfilled : (s : PageStore) (k : ℕ) (n : List ℕ) → (meaning_of s).held k ≡ [] → fits_under s k n ≡ false
 law-unfilled s k n e =
-    let tail : Bool = nat_lt (position s.names n) 32 || ltb (standing s.names) 32 in
+    let tail : Bool = is_some (row_with s.names n) || nat_lt (standing s.names) 32 in
     and_right (nameable n) ((nat_lt k 16 && nat_lt 0 (length_of s.lengths k)) && tail)
     (and_left (nat_lt k 16 && nat_lt 0 (length_of s.lengths k)) tail
     (⊎_elim
@@ -60,22 +61,26 @@ law-unfilled s k n e =
     (cases_lt k 16)))
 
 pub law-unnamed : (s : PageStore) (k : ℕ) (n : List ℕ) → nameable n ≡ false → fits_under s k n ≡ false
-law-unnamed s k n e = and_left (nameable n) ((nat_lt k 16 && nat_lt 0 (length_of s.lengths k)) && (nat_lt (position s.names n) 32 || nat_lt (standing s.names) 32)) e
+law-unnamed s k n e = and_left (nameable n) ((nat_lt k 16 && nat_lt 0 (length_of s.lengths k)) && (is_some (row_with s.names n) || nat_lt (standing s.names) 32)) e
 
 -- the catalog where each row's bytes are the same
-pub at_entry : (s t : PageStore) (b : Bool) (p : ℕ) → (b ≡ true → bytes_at t (16 + p) ≡ bytes_at s (16 + p))
-    → published_at t (cond b (Some p) None) ≡ published_at s (cond b (Some p) None)
-at_entry s t true p f = ap Some (f refl)
-at_entry s t false p f = refl
+pub at_entry : (s t : PageStore) (o : Option ℕ) → ((e : ℕ) → o ≡ Some e → bytes_at t (16 + e) ≡ bytes_at s (16 + e)) → published_at t o ≡ published_at s o
+at_entry s t (Some e) same = ap Some (same e refl)
+at_entry s t None same = refl
 
-pub entry-below : (names : List Name) (n : List ℕ) → (nameable n && nat_lt (position names n) 32) ≡ true → position names n < 32
-entry-below names n e = ltb-true (position names n) 32 (and_parts (nameable n) (nat_lt (position names n) 32) e).1
+pub entry-below : (s : PageStore) (n : List ℕ) (e : ℕ) → entry s.names n ≡ Some e → (nameable n ≡ true) × (row_with s.names n ≡ Some e) × (e < 32)
+entry-below s n e q =
+    ⊎_elim
+    (λ t. let r : row_with s.names n ≡ Some e = sym (cond-true (nameable n) (row_with s.names n) None t) ∙ q in
+    (t, r, omega (arith, (first_of s.names n e r).within, s.rows)))
+    (λ f. let x : None ≡ Some e = sym (cond-false (nameable n) (row_with s.names n) None f) ∙ q in absurd (cc))
+    (cases_Bool (nameable n))
 
 pub catalog-same : (s t : PageStore) → t.names ≡ s.names → ((e : ℕ) → e < 32 → bytes_at t (16 + e) ≡ bytes_at s (16 + e))
     → (n : List ℕ) → (meaning_of t).catalog n ≡ (meaning_of s).catalog n
 catalog-same s t e same n =
-    ap (λ (x : List Name). published_at t (entry x n)) e
-    ∙ at_entry s t (nameable n && nat_lt (position s.names n) 32) (position s.names n) (λ b. same (position s.names n) (entry-below s.names n b))
+    ap (λ (x : List (Option (InlineBytes 128))). published_at t (entry x n)) e
+    ∙ at_entry s t (entry s.names n) (λ f q. same f (entry-below s n f q).2)
 
 -- slots other than i, where their bytes are the same
 pub held_same : (s t : PageStore) (k : ℕ) → (k < 16 → bytes_at t k ≡ bytes_at s k) → (meaning_of t).held k ≡ (meaning_of s).held k

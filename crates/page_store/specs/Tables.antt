@@ -1,13 +1,13 @@
 -- A page table's own facts, as the lemmas take them.
 use Rattle.page_store.specs.declared.table.Table.{Table}
-use Rattle.std.specs.Prelude.{◌≡◌, ℕ, ◌+◌, ◌-◌, ◌*◌, ◌/◌, ◌%◌, ◌<◌, ◌≤◌, min, List, ◌++◌, length, take, ◌==◌, slice_index, slice_index_or}
+use Rattle.std.specs.Prelude.{◌≡◌, ℕ, ◌+◌, ◌-◌, ◌*◌, ◌/◌, ◌%◌, ◌<◌, ◌≤◌, List, ◌++◌, length, take, ◌==◌, slice_index, slice_index_or}
 use Rattle.std.proofs.Common.{⊎_elim, subst, sym, ap, ◌∙◌, arith}
 use Rattle.std.proofs.lemmas.Bool.{cases_eq, cond-true, cond-false, eq-eqb, ne_eqb}
 use Rattle.std.proofs.lemmas.List.{get_or-take, get_or_append_left, get_or-append_right}
 use Rattle.page_store.specs.declared.chain.Chain.{Chain}
-use Rattle.page_store.specs.Bytes.{Reachable, place}
+use Rattle.page_store.specs.Bytes.{Reachable}
 use Rattle.page_store.specs.Pages.{pages_of, count_of, chain_of, start_page, Moved, Fewest}
-use Rattle.page_store.specs.Moves.{Sound, length-pages, one_place, page-below, next-page, count-le, head-page, tail-page}
+use Rattle.page_store.specs.Moves.{Sound, length-pages, one_place, page-below, next-page, head-page, tail-page}
 use Rattle.page_store.specs.Places.{Pages}
 
 pub sound-of : (t : Table) → Sound t.pages t.next t.chains
@@ -23,52 +23,18 @@ pages-of t k h = record {
 }
 
 -- the page after one that was used to its end
-pub step-page : (t : Table) (k at d m len page : ℕ) → k < 49 → at + len ≤ 4096 * count_of t.chains k
-    → page ≡ slice_index (pages_of t.next t.chains k) ((at + d) / 4096) → d + m < len → (at + d) % 4096 + m ≡ 4096
-    → (slice_index t.next page ≡ slice_index (pages_of t.next t.chains k) ((at + (d + m)) / 4096)) × (slice_index t.next page < t.pages)
-step-page t k at d m len page h room e lt full =
-    let i : (at + d) / 4096 + 1 ≡ (at + (d + m)) / 4096 = omega arith in
-    let p = next-page _ _ _ (sound-of t) k ((at + d) / 4096) page h (omega arith) e in
+pub step-page : (t : Table) (k at m end page : ℕ) → k < 49 → end ≤ 4096 * count_of t.chains k
+    → page ≡ slice_index (pages_of t.next t.chains k) (at / 4096) → at + m < end → at % 4096 + m ≡ 4096
+    → (slice_index t.next page ≡ slice_index (pages_of t.next t.chains k) ((at + m) / 4096)) × (slice_index t.next page < t.pages)
+step-page t k at m end page h room e lt full =
+    let i : at / 4096 + 1 ≡ (at + m) / 4096 = omega arith in
+    let p = next-page _ _ _ (sound-of t) k (at / 4096) page h (omega arith) e in
     (p.0 ∙ ap (λ (x : ℕ). slice_index (pages_of t.next t.chains k) x) i, p.1)
 
 -- the page where a transfer starts
 pub first_below : (t : Table) (k at first len : ℕ) → k < 49 → Reachable (pages_of t.next t.chains k) (count_of t.chains k) at first len → first < t.pages
 first_below t k at first len h r =
     subst (λ (x : ℕ). x < t.pages) (sym r.start) (page-below _ _ _ (sound-of t) k (at / 4096) h (omega (arith, r.some, r.within)))
-
--- one turn of a transfer: m bytes, from byte d on, inside one page
-pub record Piece (t : Table) (k at d m len page : ℕ) : Type 0 where
-  pub some : 0 < m
-  pub left : d + m ≤ len
-  pub fit : (at + d) % 4096 + m ≤ 4096
-  pub is : page * 4096 + (at + d) % 4096 ≡ place (pages_of t.next t.chains k) (at + d)
-  pub ends : page * 4096 + (at + d) % 4096 + m ≤ 4096 * t.pages
-  pub small : 4096 * t.pages ≤ 4194304
-  pub low : page < t.pages
-  pub sum : at + len ≤ 4194304
-  pub goes : d + m < len → (slice_index t.next page ≡ slice_index (pages_of t.next t.chains k) ((at + (d + m)) / 4096)) × (slice_index t.next page < t.pages)
-
-pub piece : (t : Table) (k at d m len page : ℕ) → k < 49 → at + len ≤ 4096 * count_of t.chains k → d < len → m ≡ min (4096 - (at + d) % 4096) (len - d)
-    → (page ≡ slice_index (pages_of t.next t.chains k) ((at + d) / 4096)) × (page < t.pages) → Piece t k at d m len page
-piece t k at d m len page h room lt e page-is =
-    let few : t.pages ≤ 1024 = t.few in
-    let count : count_of t.chains k ≤ t.pages = count-le _ _ _ (sound-of t) k h in
-    let pg : page ≡ slice_index_or (pages_of t.next t.chains k) ((at + d) / 4096) 0 = page-is.0 in
-    let lo : page < t.pages = page-is.1 in
-    let inside : (at + d) % 4096 < 4096 = omega arith in
-    let m1 : m ≤ 4096 - (at + d) % 4096 = omega arith in
-    let m2 : m ≤ len - d = omega arith in
-    record {
-      some = omega arith;
-      left = omega arith;
-      fit = omega arith;
-      is = omega arith;
-      ends = omega arith;
-      small = omega arith;
-      low = lo;
-      sum = omega arith;
-      goes = λ more. step-page t k at d m len page h room pg more (omega arith);
-    }
 
 -- the page where the next byte comes to lie, after m free pages were put behind an owner's own
 pub start_is : (t : Table) (k len m : ℕ) (next' : List ℕ) (chains' : List Chain) → k < 48 → Fewest (count_of t.chains k) len

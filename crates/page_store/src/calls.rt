@@ -1,46 +1,18 @@
 // What a page store does.
-ghost use Rattle.std.specs.Prelude.{◌≡◌, ℕ, ◌+◌, ◌*◌, ◌/◌, ◌<◌, ◌≤◌, true, ◌&&◌, length, is_ok, if◌then◌else◌, Ok, Err, vec_len, nat_lt};
+ghost use Rattle.std.specs.Prelude.{◌≡◌, ◌+◌, ◌*◌, ◌/◌, ◌<◌, ◌≤◌, length, is_ok, if◌then◌else◌, Some, Ok, Err, IfSome, vec_len, nat_lt};
 ghost use Rattle.page_store.specs.Examples.{Two-pages};
 ghost use Rattle.page_store.specs.Names.{target};
 ghost use Rattle.page_store.specs.Pages.{total};
-ghost use Rattle.page_store.specs.State.{length_of};
-ghost use Rattle.page_store.specs.Store.{meaning_of, Accounted, Adding, Clearing, Publishing, Empty, fillable, entry, pages_at, owned, room_of, fits_under};
-ghost use Rattle.store.specs.Meaning.{nameable};
+ghost use Rattle.page_store.specs.Store.{meaning_of, Accounted, Adding, Clearing, Publishing, Empty, fillable, entry, pages_at, room_of, row_for};
 ghost use Rattle.page_store.specs.Stores.{law-fits, held_out, room_out, law-unfilled, law-unnamed};
 
-use crate::name::{Name, find};
+use crate::name::{NAMES, find, vacant};
 use crate::state::PageStore;
-use crate::table::{FREE, PAGE, Table};
+use crate::stretch::Stretches;
+use crate::table::{FREE, PAGE, PAGES, Table};
 use crate::transfer::{read, write};
-use outcome::Outcome;
-use store::{Refusal, Store};
-
-// slots of the staging area
-const SLOTS: usize = 16;
-
-// names that can stand
-const NAMES: usize = 32;
-
-// A region that whole pages, 1 to 1,024, do not fill.
-#[derive(Drop)]
-pub struct BadRegion {
-    pub region: Vec<u8>,
-}
-
-impl BadRegion {
-    // What making such a store comes to: a broken setting.
-    pub fn outcome(&self) -> Outcome
-        ensures { result ≡ Outcome.BadSetting }
-    {
-        Outcome::BadSetting
-    }
-}
-
-fn is_name(name: &[u8]) -> bool
-    ensures { result ≡ nameable name.now }
-{
-    1 <= name.len() && name.len() <= 128
-}
+use inline_bytes::InlineBytes;
+use store::{BadRegion, Refusal, SLOTS, Store, is_name};
 
 impl PageStore {
     // An empty store over a region, or the region again if pages do not fill it.
@@ -49,48 +21,45 @@ impl PageStore {
         ensures answer { elim result [ Ok s ↦ (s.region ≡ region) × Empty s | Err b ↦ b.region ≡ region ] }
     {
         let len = region.len();
-        if len % PAGE != 0 || len < PAGE || len > 1024 * PAGE {
+        if len % PAGE != 0 || len < PAGE || len > PAGES * PAGE {
             return Err(BadRegion { region });
         }
-        let none = Name {
-            len: 0,
-            bytes: [0; 128],
-        };
         Ok(PageStore {
             region,
             table: Table::new(len / PAGE),
-            lengths: [0; 48],
-            names: [none; 32],
+            lengths: [0; FREE],
+            names: [None; NAMES],
         })
     }
 
     // The row of a name that stands.
     fn row_of(&self, name: &[u8]) -> Option<usize>
-        ensures { result ≡ entry self.now.names name.now }
+        ensures row { result ≡ entry self.now.names name.now }
+        ensures within { IfSome result (λ e. e < 32) }
     {
-        if !is_name(name) {
-            return None;
+        if is_name(name) {
+            find(&self.names, name)
+        } else {
+            None
         }
-        let row = find(&self.names, name);
-        if row < NAMES { Some(row) } else { None }
     }
 
-    // The row to publish a name under: its own or one without a name; 32 if there is neither.
-    fn target(&self, name: &[u8]) -> usize
+    // The row to publish a name in: its own or one without a name.
+    fn target(&self, name: &[u8]) -> Option<usize>
         ensures { result ≡ target self.now.names name.now }
     {
-        let row = find(&self.names, name);
-        if row < NAMES {
-            row
-        } else {
-            find(&self.names, &[])
-        }
+        find(&self.names, name).or_else(|| vacant(&self.names))
     }
 
-    fn holds_bytes(&self, slot: usize) -> bool
-        ensures { result ≡ (nat_lt slot 16 && nat_lt 0 (length_of self.now.lengths slot)) }
+    // The row to publish a slot's bytes in, if they can be published under that name now.
+    fn row_for(&self, slot: usize, name: &[u8]) -> Option<usize>
+        ensures { result ≡ row_for self.now slot name.now }
     {
-        slot < SLOTS && self.lengths[slot] > 0
+        if is_name(name) && slot < SLOTS && self.lengths[slot] > 0 {
+            self.target(name)
+        } else {
+            None
+        }
     }
 
     // How many pages a slot owns: of two pages, a slot of 4,100 bytes owns both, and its room is what they have left.
@@ -122,7 +91,8 @@ impl PageStore {
     {
         let len = self.lengths[slot];
         let first = self.table.reserve(slot, len, bytes.len());
-        write(&self.table, &mut self.region, slot, len, first, bytes);
+        let walk = Stretches::new(&self.table, slot, len, first, bytes.len());
+        write(walk, &mut self.region, bytes);
         self.lengths[slot] = len + bytes.len();
     }
 
@@ -138,9 +108,7 @@ impl PageStore {
 
     // Hands a slot's pages over to a row, which frees those that it had, and names the row.
     fn hand_over(&mut self, slot: usize, row: usize, name: &[u8])
-        requires can { fits_under self.old slot name.now ≡ true }
-        requires row { row ≡ target self.old.names name.now }
-        requires within { row < 32 }
+        requires { row_for self.old slot name.now ≡ Some row }
         ensures { Publishing self.old slot row name.now self.new }
     {
         let owner = SLOTS + row;
@@ -150,7 +118,7 @@ impl PageStore {
         self.table.splice(owner, slot, n);
         self.lengths[owner] = self.lengths[slot];
         self.lengths[slot] = 0;
-        self.names[row] = Name::new(name);
+        self.names[row] = InlineBytes::new(name);
     }
 }
 
@@ -185,20 +153,14 @@ impl Store for PageStore {
     }
 
     fn can_publish(&self, slot: usize, name: &[u8]) -> bool {
-        if !is_name(name) {
-            return false;
-        }
-        if !self.holds_bytes(slot) {
-            return false;
-        }
-        self.target(name) < NAMES
+        self.row_for(slot, name).is_some()
     }
 
     fn add(&mut self, slot: usize, bytes: &[u8]) -> Result<(), Refusal> {
         if bytes.len() > self.room(slot) {
             return Err(Refusal::NoRoom);
         }
-        if bytes.len() > 0 {
+        if !bytes.is_empty() {
             self.put(slot, bytes);
         }
         Ok(())
@@ -211,30 +173,19 @@ impl Store for PageStore {
     }
 
     fn publish(&mut self, slot: usize, name: &[u8]) -> Result<(), Refusal> {
-        if !self.can_publish(slot, name) {
-            return Err(Refusal::Unpublishable);
-        }
-        let row = self.target(name);
+        let row = self.row_for(slot, name).ok_or(Refusal::Unpublishable)?;
         self.hand_over(slot, row, name);
         Ok(())
     }
 
     fn copy(&self, name: &[u8], offset: usize, page: &mut [u8]) -> Result<usize, Refusal> {
-        let Some(row) = self.row_of(name) else {
-            return Err(Refusal::Absent);
-        };
+        let row = self.row_of(name).ok_or(Refusal::Absent)?;
         let owner = SLOTS + row;
         let n = self.lengths[owner].saturating_sub(offset).min(page.len());
         if n > 0 {
             let first = self.table.page_at(owner, offset / PAGE);
-            read(
-                &self.table,
-                &self.region,
-                owner,
-                offset,
-                first,
-                &mut page[0..n],
-            );
+            let walk = Stretches::new(&self.table, owner, offset, first, n);
+            read(walk, &self.region, &mut page[..n]);
         }
         Ok(n)
     }

@@ -4,9 +4,11 @@
 mod calls;
 mod chain;
 mod name;
+mod pages;
 mod state;
+mod stretch;
 mod table;
 mod transfer;
 
-pub use calls::BadRegion;
 pub use state::PageStore;
+pub use store::BadRegion;

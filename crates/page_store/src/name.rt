@@ -1,56 +1,24 @@
 // The rows of a catalog: a name of 1 to 128 bytes, or none.
-ghost use Rattle.std.specs.Prelude.{◌≡◌, ℕ, ◌<◌, ◌≤◌, ◌++◌, length, drop};
-ghost use Rattle.page_store.specs.Names.{name_of, position, Short};
-ghost use Rattle.std.specs.Str.{bytes_eq};
+ghost use Rattle.std.specs.Prelude.{◌≡◌, ◌<◌, length, IfSome};
+ghost use Rattle.page_store.specs.Names.{row_with, vacancy};
 
-#[derive(Clone, Copy)]
-pub struct Name {
-    pub len: usize,
-    pub bytes: [u8; 128],
-}
+use inline_bytes::InlineBytes;
 
-impl Name {
-    pub(crate) fn new(name: &[u8]) -> Name
-        requires { length name.now ≤ 128 }
-        ensures name { name_of result ≡ name.now }
-        ensures len { result.len ≡ length name.now }
-        ensures long { length result.bytes ≡ 128 }
-    {
-        let mut bytes = [0u8; 128];
-        overwrite(&mut bytes, name);
-        Name {
-            len: name.len(),
-            bytes,
-        }
-    }
-}
+// The rows: names that can stand.
+pub const NAMES: usize = 32;
 
-// Puts bytes at the front of a slice.
-fn overwrite(out: &mut [u8], bytes: &[u8])
-    requires { length bytes.now ≤ length out.old }
-    ensures { out.new ≡ bytes.now ++ drop (length bytes.now) out.old }
+// The first row with that name.
+pub(crate) fn find(rows: &[Option<InlineBytes<128>>], name: &[u8]) -> Option<usize>
+    ensures row { result ≡ row_with rows.now name.now }
+    ensures within { IfSome result (λ e. e < length rows.now) }
 {
-    let len = bytes.len();
-    out[0..len].copy_from_slice(bytes);
+    rows.iter()
+        .position(|row| matches!(row, Some(held) if held.as_slice() == name))
 }
 
-fn same(row: &Name, name: &[u8]) -> bool
-    requires { row.now.len ≤ 128 }
-    ensures { result ≡ bytes_eq (name_of row.now) name.now }
+// The first row without one.
+pub(crate) fn vacant(rows: &[Option<InlineBytes<128>>]) -> Option<usize>
+    ensures { result ≡ vacancy rows.now }
 {
-    &row.bytes[0..row.len] == name
-}
-
-// The first row with that name, or the number of rows.
-pub(crate) fn find(names: &[Name], name: &[u8]) -> usize
-    requires { Short names.now }
-    ensures row { result ≡ position names.now name.now }
-    ensures within { result ≤ length names.now }
-{
-    for i in 0..names.len() {
-        if same(&names[i], name) {
-            return i;
-        }
-    }
-    names.len()
+    rows.iter().position(|row| row.is_none())
 }

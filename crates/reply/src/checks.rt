@@ -1,26 +1,16 @@
 // Made from bytes that pass, and read back.
-ghost use Rattle.std.specs.Prelude.{◌≡◌, ◌≤◌, [], length};
+ghost use Rattle.std.specs.Prelude.{◌≡◌, []};
 ghost use Rattle.std.specs.Option.{SomeIff, option_map};
 ghost use Rattle.reply.specs.Address.{bytes_of};
-ghost use Rattle.reply.specs.Visible.{are_visible, IsAddress, is_visible};
+ghost use Rattle.reply.specs.Visible.{are_visible, IsAddress};
 
-use super::{MOST, ReplyAddress};
-
-fn is_visible(b: u8) -> bool
-    ensures { result ≡ is_visible b }
-{
-    b >= 0x21 && b <= 0x7e
-}
+use super::ReplyAddress;
+use inline_bytes::InlineBytes;
 
 fn are_visible(s: &[u8]) -> bool
     ensures { result ≡ are_visible s.now }
 {
-    for b in s {
-        if !is_visible(*b) {
-            return false;
-        }
-    }
-    true
+    s.iter().all(|b| b.is_ascii_graphic())
 }
 
 impl ReplyAddress {
@@ -28,32 +18,26 @@ impl ReplyAddress {
     pub fn new(s: &[u8]) -> Option<Self>
         ensures { SomeIff (option_map bytes_of result) (IsAddress s.now) s.now }
     {
-        if s.len() > MOST {
-            return None;
+        let bytes = InlineBytes::new(s)?;
+        if are_visible(s) {
+            Some(ReplyAddress { bytes })
+        } else {
+            None
         }
-        if !are_visible(s) {
-            return None;
-        }
-        let mut bytes = [0; MOST];
-        let len = s.len();
-        bytes[0..len].copy_from_slice(s);
-        Some(ReplyAddress { bytes, len })
     }
 
     // The address of no bytes: none is told.
     pub fn empty() -> Self
         ensures { bytes_of result ≡ [] }
     {
-        ReplyAddress {
-            bytes: [0; MOST],
-            len: 0,
-        }
+        let bytes = InlineBytes::empty();
+        ReplyAddress { bytes }
     }
 
     pub fn as_bytes(&self) -> &[u8]
         ensures value { result.now ≡ bytes_of self.now }
         ensures address { IsAddress result.now }
     {
-        &self.bytes[0..self.len]
+        self.bytes.as_slice()
     }
 }

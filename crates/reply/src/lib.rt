@@ -1,8 +1,11 @@
 // A reply address: up to 256 bytes, each one visible (0x21 to 0x7E). It is held whole, so that nothing is borrowed or allocated.
 #![tactic(auto)]
 
-ghost use Rattle.std.specs.Prelude.{◌≡◌, ◌≤◌, true, take};
-ghost use Rattle.reply.specs.Visible.{are_visible, most};
+ghost use Rattle.std.specs.Prelude.{◌≡◌, true};
+ghost use Rattle.inline_bytes.specs.Contents.{contents};
+ghost use Rattle.reply.specs.Visible.{are_visible};
+
+use inline_bytes::InlineBytes;
 
 mod checks;
 
@@ -11,8 +14,6 @@ pub const MOST: usize = 256;
 
 #[derive(Clone, Copy)]
 pub struct ReplyAddress {
-    bytes: [u8; MOST],
-    len: usize,
-    ghost short: { len ≤ most },
-    ghost seen: { are_visible (take len bytes) ≡ true },
+    bytes: InlineBytes<MOST>,
+    ghost seen: { are_visible (contents bytes) ≡ true },
 }

@@ -1,14 +1,31 @@
 // Inputs with the number and the place that they must give; number 0 is a packet.
+ghost use Rattle.std.specs.Prelude.{◌≡◌};
 
-#[derive(Clone, Copy)]
-pub struct Case {
+#[derive(Clone, Copy, Drop)]
+pub struct Case<I> {
     pub name: &'static str,
-    pub input: &'static [u8],
+    pub input: I,
     pub number: u8,
     pub place: usize,
 }
 
-pub static GOOD: [Case; 15] = [
+impl<I> Case<I> {
+    pub fn new(name: &'static str, input: I, number: u8, place: usize) -> Self
+        ensures name { result.name.now ≡ name.now }
+        ensures input { result.input ≡ input }
+        ensures number { result.number ≡ number }
+        ensures place { result.place ≡ place }
+    {
+        Case {
+            name,
+            input,
+            number,
+            place,
+        }
+    }
+}
+
+pub static GOOD: [Case<&[u8]>; 15] = [
     Case {
         name: "create, first example",
         input: b"BITS_POST /upload/2000mb-rfc2119.txt HTTP/1.1\r\nAccept: */*\r\nBITS-Packet-Type: Create-Session\r\nBITS-Supported-Protocols: {7df0354d-249b-430f-820d-3d2a9bef4931}\r\nContent-Name: rfc2119.txt\r\nUser-Agent: Microsoft BITS/6.7\r\nHost: frankcao8\r\nContent-Length: 0\r\nConnection: Keep-Alive\r\n\r\n",
@@ -101,7 +118,7 @@ pub static GOOD: [Case; 15] = [
     },
 ];
 
-pub static TEXT: [Case; 27] = [
+pub static TEXT: [Case<&[u8]>; 27] = [
     Case {
         name: "empty input",
         input: b"",
@@ -266,7 +283,7 @@ pub static TEXT: [Case; 27] = [
     },
 ];
 
-pub static FIELDS: [Case; 29] = [
+pub static FIELDS: [Case<&[u8]>; 29] = [
     Case {
         name: "no fields",
         input: b"BITS_POST /a HTTP/1.1\r\n\r\n",
@@ -443,7 +460,7 @@ pub static FIELDS: [Case; 29] = [
     },
 ];
 
-pub static PROTOCOLS: [Case; 9] = [
+pub static PROTOCOLS: [Case<&[u8]>; 9] = [
     Case {
         name: "our protocol among two",
         input: b"BITS_POST /a HTTP/1.1\r\nContent-Length: 0\r\nBITS-Packet-Type: CREATE-SESSION\r\nBITS-Supported-Protocols: {7df0354d-249b-430f-820d-3d2a9bef4932} ,\t{7df0354d-249b-430f-820d-3d2a9bef4931}\r\n\r\n",

@@ -1,5 +1,5 @@
 -- One call, as it is heard.
-use Rattle.std.proofs.Common.{◌≡◌, ℕ, ◌+◌, ◌<◌, ◌≤◌, List, [], ◌∷◌, ◌++◌, map, length, get_or, take, drop, None, Option, sym, refl, ap, ◌∙◌, subst, arith, Bor}
+use Rattle.std.proofs.Common.{◌≡◌, ℕ, ◌+◌, ◌<◌, ◌≤◌, List, [], ◌∷◌, ◌++◌, map, length, get_or, take, drop, None, Option, sym, refl, ap, ◌∙◌, arith, Bor}
 use Rattle.std.proofs.lemmas.List.{append-nil, drop-map, get_or-map, map-append, take-map}
 use Rattle.ack.specs.Text.{ack_bytes}
 use Rattle.history.specs.Law.{number}
@@ -14,7 +14,6 @@ use Rattle.session.specs.Steps.{AnswerDone, MessageDone, Ticked, answer, answer_
 use Rattle.session.specs.Told.{answer_ack, message_ack}
 use Rattle.session.specs.declared.records.Settings.{Settings}
 use Rattle.runs.specs.Log.{Made, acks_of}
-use Rattle.runs.specs.declared.calls.Call.{Call}
 use Rattle.runs.specs.declared.calls.Call.TheVariants as call
 use Rattle.runs.specs.declared.calls.Line.TheVariants as line
 
@@ -26,61 +25,50 @@ module _ (sets : Settings) (w v : World) (desk page out : List ℕ) where
   sized : (h : Heard) (k : ℕ) → k ≡ length (ack_bytes h.ack) → length (acks_of (h ∷ [])) ≡ k
   sized h k size = ap length (append-nil (ack_bytes h.ack)) ∙ sym size
 
-  pub made-message : (c : Call) (size : ℕ) (input : Bor (List ℕ)) (outcome : Outcome) (used k : ℕ) (notice : Option ℕ) → c ≡ call.Message size input
+  pub made-message : (size : ℕ) (input : Bor (List ℕ)) (outcome : Outcome) (used k : ℕ) (notice : Option ℕ)
       → outcome ≡ message_outcome sets w (length page) input.now → MessageDone sets w (length page) input.now v
       → out ≡ ack_bytes (message_ack sets w (length page) input.now v) ++ drop (length (ack_bytes (message_ack sets w (length page) input.now v))) page
       → k ≡ length (ack_bytes (message_ack sets w (length page) input.now v)) → used ≡ message_used (length page) input.now → k ≤ length page
-      → Made sets w desk c page (line.Message (length page) outcome used k notice) out v
-  made-message c size input outcome used k notice is o done written long u fits =
+      → Made sets w desk (call.Message size input) page (line.Message (length page) outcome used k notice) out v
+  made-message size input outcome used k notice o done written long u fits =
       let a = message_ack sets w (length page) input.now v in
       let h : Heard = record { call = message (length page) input.now; number = number outcome; ack = a } in
-      subst (λ d. Made sets w desk d page (line.Message (length page) outcome used k notice) out v) (sym is) (record {
+      record {
         heard = h ∷ [];
         tells = (a, refl, refl, u, long);
         story = (v, ((ap number o, done), refl), refl);
         written = fronted h k long written;
         size = sized h k long;
         fits = fits;
-      })
+      }
 
-  pub made-answer : (c : Call) (size at : ℕ) (verdict : Verdict) (serial : ℕ) (outcome : Outcome) (k : ℕ) (notice : Option ℕ) → c ≡ call.Answer size at verdict
+  pub made-answer : (size at : ℕ) (verdict : Verdict) (serial : ℕ) (outcome : Outcome) (k : ℕ) (notice : Option ℕ)
       → at < length desk → serial ≡ get_or desk at 0
       → outcome ≡ answer_outcome w (length page) serial (word_of verdict) → AnswerDone w (length page) serial (word_of verdict) v
       → out ≡ ack_bytes (answer_ack sets w (length page) serial (word_of verdict) v) ++ drop (length (ack_bytes (answer_ack sets w (length page) serial (word_of verdict) v))) page
       → k ≡ length (ack_bytes (answer_ack sets w (length page) serial (word_of verdict) v)) → k ≤ length page
-      → Made sets w desk c page (line.Answer (length page) serial outcome k notice) out v
-  made-answer c size at verdict serial outcome k notice is lies same o done written long fits =
+      → Made sets w desk (call.Answer size at verdict) page (line.Answer (length page) serial outcome k notice) out v
+  made-answer size at verdict serial outcome k notice lies same o done written long fits =
       let a = answer_ack sets w (length page) serial (word_of verdict) v in
       let h : Heard = record { call = answer (length page) serial (word_of verdict); number = number outcome; ack = a } in
-      subst (λ d. Made sets w desk d page (line.Answer (length page) serial outcome k notice) out v) (sym is) (record {
+      record {
         heard = h ∷ [];
         tells = (a, refl, refl, lies, same, long);
         story = (v, ((ap number o, done), refl), refl);
         written = fronted h k long written;
         size = sized h k long;
         fits = fits;
-      })
+      }
 
-  pub made-tick : (c : Call) (reading ended : ℕ) → c ≡ call.Tick reading → Ticked w reading ended v → out ≡ page → Made sets w desk c page (line.Tick ended) out v
-  made-tick c reading ended is done e = subst (λ d. Made sets w desk d page (line.Tick ended) out v) (sym is) (record {
-    heard = record { call = tick reading; number = ended; ack = None } ∷ [];
-    tells = refl;
-    story = (v, (done, refl), refl);
-    written = e;
-    size = refl;
-    fits = omega arith;
-  })
-
-pub made_none : (sets : Settings) (w : World) (desk page : List ℕ) (c : Call) (size at : ℕ) (verdict : Verdict) → c ≡ call.Answer size at verdict → length desk ≤ at
-    → Made sets w desk c page line.Skipped page w
-made_none sets w desk page c size at verdict is short = subst (λ d. Made sets w desk d page line.Skipped page w) (sym is) (record {
-  heard = [];
-  tells = (short, refl);
-  story = refl;
+pub made-tick : (sets : Settings) (w v : World) (desk page : List ℕ) (reading ended : ℕ) → Ticked w reading ended v → Made sets w desk (call.Tick reading) page (line.Tick ended) page v
+made-tick sets w v desk page reading ended done = record {
+  heard = record { call = tick reading; number = ended; ack = None } ∷ [];
+  tells = refl;
+  story = (v, (done, refl), refl);
   written = refl;
   size = refl;
   fits = omega arith;
-})
+}
 
 -- the desk without the notice at a place
 pub taken-off : (xs ys : List Notice) (at : ℕ) → ys ≡ take at xs ++ drop (at + 1) xs → map serial_of ys ≡ take at (map serial_of xs) ++ drop (at + 1) (map serial_of xs)

@@ -1,6 +1,6 @@
 -- Calls made one after another.
 use Rattle.std.proofs.Common.{◌≡◌, ℕ, zero, suc, ◌+◌, ◌-◌, ◌<◌, ◌≤◌, min, List, [], ◌∷◌, ◌++◌, length, get_or, take, drop, sym, refl, ap, ◌∙◌, subst, arith, take-append-drop}
-use Rattle.std.proofs.lemmas.List.{append_assoc, append-nil, drop-drop, length-append, length-drop, length-take-le, take_all, take_more}
+use Rattle.std.proofs.lemmas.List.{append_assoc, append-nil, drop-drop, length-append, length-drop, length-take-le, take_more}
 use lib.Seq.{drop-append_seam, take-append_seam}
 use Rattle.ack.specs.Text.{ack_bytes}
 use Rattle.law.specs.Heard.{Heard, Story}
@@ -82,58 +82,48 @@ front xs ys n e = ap (λ k. take k (xs ++ ys)) (sym e) ∙ take-append_seam xs y
 behind : (xs ys : List ℕ) (n : ℕ) → length xs ≡ n → drop n (xs ++ ys) ≡ ys
 behind xs ys n e = ap (λ k. drop k (xs ++ ys)) (sym e) ∙ drop-append_seam xs ys
 
-module _ (sets : Settings) (start : World) (calls : List Call) (pages : List ℕ) (i : ℕ) (lines : List Line) (desk : List ℕ) (at : ℕ) (out : List ℕ) (w : World) where
+module _ {sets : Settings} {start : World} {calls : List Call} {pages : List ℕ} {i : ℕ} {lines : List Line} {desk : List ℕ} {at : ℕ} {out : List ℕ} {w : World} where
   -- the bytes from a place on are those that were lent
   rest-is : Playing sets start calls pages i lines desk at out w → drop at out ≡ drop at pages
   rest-is p = ap (drop at) p.written ∙ behind (acks_of p.heard) (drop at pages) at p.size
 
-  pub turn : (p : Playing sets start calls pages i lines desk at out w) (c : Call) (l : Line) (k : ℕ) (page : List ℕ) (v : World)
-      → i < length calls → length out ≡ length pages → c ≡ get_or calls i c → k ≡ min (size_of c) (length pages - at)
-      → Made sets w desk c (take k (drop at out)) l page v
-      → Playing sets start calls pages (i + 1) (lines ++ l ∷ []) (desk_after desk c l) (at + length_in l) (take at out ++ (page ++ drop k (drop at out))) v
-  turn p c l k page v lt whole here size m =
+  -- one call more, with a page of what is left
+  pub turn : (p : Playing sets start calls pages i lines desk at out w) (d : Call) (l : Line) (n m : ℕ) (page : List ℕ) (v : World)
+      → i < length calls → length out ≡ length pages → n ≡ size_of (get_or calls i d) → m ≡ min n (length out - at)
+      → Made sets w desk (get_or calls i d) (take (at + m - at) (drop at out)) l page v
+      → Playing sets start calls pages (i + 1) (lines ++ l ∷ []) (desk_after desk (get_or calls i d) l) (at + length_in l) (take at out ++ (page ++ drop (at + m - at) (drop at out))) v
+  turn p d l n m page v lt whole asked given made =
+      let c = get_or calls i d in
+      let k = at + m - at in
       let hs = p.heard in
-      let one = m.heard in
+      let one = made.heard in
       let rest = drop at pages in
       let within = p.within in
+      let size : k ≡ min (size_of c) (length pages - at) = omega arith in
       let long : length (take k (drop at out)) ≡ k = length-take-le k (drop at out) (let z = length-drop at out in omega (arith, z)) in
-      let fit : length_in l ≤ k = omega (arith, m.fits, long) in
+      let fit : length_in l ≤ k = omega (arith, made.fits, long) in
       let told : Tells (min (size_of c) (length pages - (0 + length (acks_of hs)))) desk c l one =
-      subst (λ n. Tells n desk c l one) (long ∙ size ∙ ap (λ n. min (size_of c) (length pages - n)) (let z = p.size in omega (arith, z))) m.tells in
+      subst (λ n. Tells n desk c l one) (long ∙ size ∙ ap (λ n. min (size_of c) (length pages - n)) (let z = p.size in omega (arith, z))) made.tells in
       let acks : acks_of (hs ++ one) ≡ acks_of hs ++ acks_of one = acks-append hs one in
       let back : drop k (drop at out) ≡ drop k rest = ap (drop k) (rest-is p) in
       let filled : page ++ drop k (drop at out) ≡ acks_of one ++ drop (length_in l) rest =
-      (λ t. m.written t ++ back t) ∙ append_assoc (acks_of one) (drop (length_in l) (take k (drop at out))) (drop k rest)
+      (λ t. made.written t ++ back t) ∙ append_assoc (acks_of one) (drop (length_in l) (take k (drop at out))) (drop k rest)
       ∙ (λ t. acks_of one ++ (drop (length_in l) (take k (rest-is p t)) ++ drop k rest)) ∙ ap (λ z. acks_of one ++ z) (join rest (length_in l) k fit) in
       record {
         heard = hs ++ one;
-        logged = subst (λ cs. Logged (length pages) 0 [] cs (lines ++ l ∷ []) (hs ++ one) (desk_after desk c l)) (ap (λ x. take i calls ++ x ∷ []) here ∙ sym (take_more calls i c lt)) (logged-more (length pages) 0 [] (take i calls) lines hs one desk c l p.logged told);
-        story = story-append sets hs one start w v p.story m.story;
+        logged = subst (λ cs. Logged (length pages) 0 [] cs (lines ++ l ∷ []) (hs ++ one) (desk_after desk c l)) (sym (take_more calls i d lt)) (logged-more (length pages) 0 [] (take i calls) lines hs one desk c l p.logged told);
+        story = story-append sets hs one start w v p.story made.story;
         written =
             (λ t. (ap (take at) p.written ∙ front (acks_of hs) rest at p.size) t ++ filled t)
             ∙ sym (append_assoc (acks_of hs) (acks_of one) (drop (length_in l) rest)) ∙ (λ t. sym acks t ++ drop-drop (length_in l) at pages t);
-        size = ap length acks ∙ length-append (acks_of hs) (acks_of one) ∙ (λ t. p.size t + m.size t);
+        size = ap length acks ∙ length-append (acks_of hs) (acks_of one) ∙ (λ t. p.size t + made.size t);
         within = let z = length-drop at out in omega (arith, z, size);
       }
 
-  pub over : Playing sets start calls pages i lines desk at out w → i ≡ length calls → Played sets start calls pages lines desk out w
-  over p e = record {
-    heard = p.heard;
-    logged = subst (λ cs. Logged (length pages) 0 [] cs lines p.heard desk) (ap (λ n. take n calls) e ∙ take_all (length calls) calls (omega arith)) p.logged;
-    story = p.story;
-    written = p.written ∙ ap (λ n. acks_of p.heard ++ drop n pages) (sym p.size);
-  }
-
--- the same, as the loop has it
-pub next-at : {sets : Settings} {start : World} {calls : List Call} {pages : List ℕ} {i : ℕ} {lines lines' : List Line} {desk desk' : List ℕ} {at at' : ℕ} {out : List ℕ} {w : World}
-    → lines' ≡ lines → desk' ≡ desk → at' ≡ at → Playing sets start calls pages i lines desk at out w → Playing sets start calls pages i lines' desk' at' out w
-next-at {sets} {start} {calls} {pages} {i} {lines} {lines'} {desk} {desk'} {at} {at'} {out} {w} e f h p =
-    subst (λ a. Playing sets start calls pages i lines' desk' a out w) (sym h) (subst (λ d. Playing sets start calls pages i lines' d at out w) (sym f) (subst (λ l. Playing sets start calls pages i l desk at out w) (sym e) p))
-
 -- the whole law over what was played on an intake newly set up
-pub accounted : (sets : Settings) (m : Meaning) (u : World) (calls : List Call) (pages : List ℕ) (lines : List Line) (desk : List ℕ) (out : List ℕ) (w : World)
+pub accounted : {sets : Settings} {m : Meaning} {u : World} {calls : List Call} {pages : List ℕ} {lines : List Line} {desk : List ℕ} {out : List ℕ} {w : World}
     → Started sets m u → Played sets u calls pages lines desk out w → Account sets m.catalog calls pages lines desk out w
-accounted sets m u calls pages lines desk out w started p = record {
+accounted {sets} {m} {u} {calls} {pages} {lines} {desk} {out} {w} started p = record {
   heard = p.heard;
   logged = p.logged;
   written = p.written;

@@ -1,40 +1,21 @@
--- The first row of a table that passes a test.
-use Rattle.std.proofs.Common.{◌≡◌, ℕ, suc, ◌+◌, ◌<◌, ◌≤◌, Bool, true, false, cond, List, length, get_or, drop, Some, None, Decides, Option, refl, ap, ◌∙◌, arith, rules}
+-- The first row of a table that passes a test, as the library's search gives it.
+use Rattle.std.proofs.Common.{◌≡◌, ℕ, suc, ◌+◌, Bool, true, false, cond, List, [], ◌∷◌, map, Some, Option, refl, sym, ap, ◌∙◌, arith, position}
+use Rattle.std.specs.List.{position_from}
 use Rattle.std.specs.Option.{option_map}
-use Rattle.std.specs.Str.{bytes_eq}
-use Rattle.std.proofs.lemmas.Slice.Eq.{bytes_eq-Decides}
-use Rattle.std.proofs.lemmas.List.{drop_more, drop_all}
+use Rattle.std.proofs.lemmas.Iterator.Adapters.{position_from-zero}
 use Rattle.session.specs.Sessions.{Live, index_of}
 
-module _ (test : Option Live → Bool) where
-  -- the search goes on from row i
-  abbrev pub from : ℕ → List (Option Live) → Option ℕ
-  from i rs = option_map (λ k. i + k) (index_of test rs)
-
-shift : (i : ℕ) (o : Option ℕ) → option_map (λ k. i + k) (option_map suc o) ≡ option_map (λ k. i + 1 + k) o
-shift i None = refl
-shift i (Some k) = ap Some (omega arith)
-
--- a row that does not pass is left behind
-pub from_more : (test : Option Live → Bool) (rs : List (Option Live)) (i : ℕ) → i < length rs → test (get_or rs i None) ≡ false → from test i (drop i rs) ≡ from test (i + 1) (drop (i + 1) rs)
-from_more test rs i h e =
-    ap (from test i) (drop_more rs i None h) ∙ ap (λ t. option_map (λ k. i + k) (cond t (Some 0) (option_map suc (index_of test (drop (i + 1) rs))))) e
-    ∙ shift i (index_of test (drop (i + 1) rs))
-
-pub from-here : (test : Option Live → Bool) (rs : List (Option Live)) (i : ℕ) → i < length rs → test (get_or rs i None) ≡ true → from test i (drop i rs) ≡ Some i
-from-here test rs i h e =
-    ap (from test i) (drop_more rs i None h) ∙ ap (λ t. option_map (λ k. i + k) (cond t (Some 0) (option_map suc (index_of test (drop (i + 1) rs))))) e ∙ ap Some (omega arith)
-
-pub from_end : (test : Option Live → Bool) (rs : List (Option Live)) (i : ℕ) → length rs ≤ i → from test i (drop i rs) ≡ None
-from_end test rs i h = ap (from test i) (drop_all i rs h)
-
-pub from_start : (test : Option Live → Bool) (rs : List (Option Live)) → from test 0 (drop 0 rs) ≡ index_of test rs
-from_start test rs = at (index_of test rs)
+later : {X : Type 0} (test : X → Bool) (i : ℕ) (xs : List X) → position_from test (i + 1) xs ≡ option_map suc (position_from test i xs)
+later test i [] = refl
+later test i (x ∷ xs) = by (test x) (later test (i + 1) xs)
   where
-    at : (o : Option ℕ) → option_map (λ k. 0 + k) o ≡ o
-    at None = refl
-    at (Some k) = ap Some (omega arith)
+    by : (b : Bool) → position_from test (i + 1 + 1) xs ≡ option_map suc (position_from test (i + 1) xs) → cond b (Some (i + 1)) (position_from test (i + 1 + 1) xs) ≡ option_map suc (cond b (Some i) (position_from test (i + 1) xs))
+    by true h = ap Some (omega arith)
+    by false h = h
 
--- a test that decides whether two lists are equal
-pub as_same : (xs ys : List ℕ) (r : Bool) → Decides r (xs ≡ ys) → r ≡ bytes_eq xs ys
-as_same xs ys r h = search (rules, bytes_eq-Decides)
+from_start : {X : Type 0} (read : X → Option Live) (test : Option Live → Bool) (xs : List X) → index_of test (map read xs) ≡ position_from (λ x. test (read x)) 0 xs
+from_start read test [] = refl
+from_start read test (x ∷ xs) = ap (λ o. cond (test (read x)) (Some 0) o) (ap (option_map suc) (from_start read test xs) ∙ sym (later (λ y. test (read y)) 0 xs))
+
+pub index_is_position : {X : Type 0} (read : X → Option Live) (test : Option Live → Bool) (xs : List X) → position (λ x. test (read x)) xs ≡ index_of test (map read xs)
+index_is_position read test xs = position_from-zero (λ x. test (read x)) xs ∙ sym (from_start read test xs)

@@ -1,15 +1,16 @@
 -- What the records of sessions mean, and the world that an intake stands for.
-use Rattle.std.specs.Prelude.{ℕ, suc, Bool, cond, List, [], ◌∷◌, take, Some, None, Ok, Err, Option, Result, slice_index_or}
+use Rattle.std.specs.Prelude.{ℕ, suc, Bool, cond, List, [], ◌∷◌, Some, None, Ok, Err, Option, Result, slice_index_or}
 use Rattle.std.specs.Option.{option_map}
 use Rattle.ack.specs.Told.{address_of}
 use Rattle.ack.specs.declared.told.Stage.{Stage}
 use Rattle.ack.specs.declared.told.Stage.TheVariants.{Receiving, AtApprover, Ready}
+use Rattle.inline_bytes.specs.Contents.{contents}
 use Rattle.store.specs.Meaning.{Meaning}
 use Rattle.session.specs.declared.destination.Destination.{Destination}
 use Rattle.session.specs.declared.records.Session.{Session}
 
 abbrev pub path_of : Destination → List ℕ
-path_of d = take d.len d.bytes
+path_of d = contents d.bytes
 
 -- how far a session is: bytes are still to come, the approver is asked, or it may be closed, with the approver's reply address
 pub data Phase : Type 0 where

@@ -2,15 +2,14 @@
 #![tactic(auto)]
 
 mod destination;
+mod fragments;
 mod paths;
 mod records;
 mod rules;
 mod table;
 
 pub use destination::Destination;
+pub use fragments::{Fragment, MOST_BODY};
 pub use records::{Session, Settings};
-pub use rules::{
-    LIFETIME, MOST_BODY, close_fault, create_fault, is_expired, judge_fragment, opened_session,
-    ruled_session,
-};
+pub use rules::{LIFETIME, is_expired, opened_session, ruled_session};
 pub use table::{ROWS, Wanted, first_row};

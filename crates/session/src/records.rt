@@ -1,6 +1,8 @@
 // The records that an intake keeps.
+ghost use Rattle.std.specs.Prelude.{◌≡◌};
+
 use crate::destination::Destination;
-use ack::Stage;
+use ack::{Progress, Stage};
 
 #[derive(Clone, Copy)]
 pub struct Settings {
@@ -24,4 +26,17 @@ pub struct Session {
     pub stage: Stage,
     // the clock at its last message of number 0
     pub stamp: u64,
+}
+
+impl Session {
+    // How far the session is.
+    pub fn progress(&self) -> Progress
+        ensures received { result.received ≡ self.now.received }
+        ensures stage { result.stage ≡ self.now.stage }
+    {
+        Progress {
+            received: self.received,
+            stage: self.stage,
+        }
+    }
 }

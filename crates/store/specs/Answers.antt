@@ -1,7 +1,7 @@
 -- What a store answers.
-use Rattle.std.specs.Prelude.{◌≡◌, ℕ, ◌-◌, ◌≤◌, min, List, ◌++◌, length, take, drop, Some, None, Ok, Err, Option, Result}
+use Rattle.std.specs.Prelude.{◌≡◌, ℕ, ◌-◌, ◌≤◌, min, List, ◌++◌, length, take, drop, Some, None, Ok, Err, Option, Result, codes}
 use Rattle.store.specs.declared.Refusal.{Refusal}
-use Rattle.store.specs.declared.Refusal.TheVariants.{Absent}
+use Rattle.store.specs.declared.Refusal.TheVariants.{NoRoom, Unpublishable, Absent}
 
 -- P holds if the call was accepted
 abbrev pub Accepted : {X E : Type 0} → Result X E → Type 0 → Type 0
@@ -36,3 +36,9 @@ filled None offset page = page
 abbrev pub Within : Result ℕ Refusal → ℕ → Type 0
 Within (Ok n) m = n ≤ m
 Within (Err e) m = Unit {0}
+
+-- what a refusal prints
+abbrev pub text_of : Refusal → List ℕ
+text_of NoRoom = codes "no room"
+text_of Unpublishable = codes "cannot be published"
+text_of Absent = codes "nothing under that name"

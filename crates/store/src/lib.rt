@@ -1,14 +1,28 @@
 // What every store of uploaded bundles shows of itself: 16 slots to stage bytes in, and a catalog of published names.
 #![tactic(auto)]
 
-ghost use Rattle.std.specs.Prelude.{◌≡◌, ℕ, ◌+◌, ◌^◌, ◌<◌, ◌≤◌, false, List, [], length, is_ok, nat_le};
-ghost use Rattle.store.specs.Answers.{Accepted, Refused, length_of, copied, filled, Within};
+ghost use Rattle.std.specs.Prelude.{◌≡◌, ℕ, ◌+◌, ◌^◌, ◌<◌, ◌≤◌, false, List, [], length, is_ok, nat_le, Some, codes};
+ghost use Rattle.store.specs.Answers.{Accepted, Refused, length_of, copied, filled, text_of, Within};
 ghost use Rattle.store.specs.Meaning.Change.{adding, clearing, publishing};
 ghost use Rattle.store.specs.Meaning.{Meaning, Change, Added, Cleared, Published, nameable};
 ghost use Rattle.store.specs.Whole.{Stored, Untouched};
 
+use outcome::Outcome;
+use std::error::Error;
+use std::fmt;
+
+// slots of the staging area
+pub const SLOTS: usize = 16;
+
+// Whether bytes can name what is published.
+pub fn is_name(name: &[u8]) -> bool
+    ensures { result ≡ nameable name.now }
+{
+    (1..=128).contains(&name.len())
+}
+
 // Why a store refused a call.
-#[derive(Clone, Copy)]
+#[derive(Clone, Copy, Debug, PartialEq, Eq)]
 pub enum Refusal {
     // more bytes than the slot has room for
     NoRoom,
@@ -18,6 +32,46 @@ pub enum Refusal {
     Absent,
 }
 
+impl fmt::Display for Refusal {
+    ghost output = { λ r. Some (text_of r) };
+
+    fn fmt<W: fmt::Write>(&self, f: &mut fmt::Formatter<W>) -> fmt::Result {
+        f.write_str(match self {
+            Refusal::NoRoom => "no room",
+            Refusal::Unpublishable => "cannot be published",
+            Refusal::Absent => "nothing under that name",
+        })
+    }
+}
+
+impl Error for Refusal {}
+
+// A region over which no store can be made.
+#[derive(Debug, Drop)]
+pub struct BadRegion {
+    pub region: Vec<u8>,
+}
+
+impl fmt::Display for BadRegion {
+    ghost output = { λ _. Some (codes "no store fits the region") };
+
+    fn fmt<W: fmt::Write>(&self, f: &mut fmt::Formatter<W>) -> fmt::Result {
+        f.write_str("no store fits the region")
+    }
+}
+
+impl Error for BadRegion {}
+
+impl BadRegion {
+    // What making such a store comes to: a broken setting.
+    pub fn outcome(&self) -> Outcome
+        ensures { result ≡ Outcome.BadSetting }
+    {
+        Outcome::BadSetting
+    }
+}
+
+// One interface and two makers, so that all above is written once.
 pub trait Store {
     // what the store means
     ghost meaning: { Self → Meaning };
@@ -37,6 +91,8 @@ pub trait Store {
     fn can_publish(&self, slot: usize, name: &[u8]) -> bool
         ensures { result ≡ (meaning self.now).publishable slot name.now };
 
+    // `len`, `add`, `clear` and `publish` are each maker's own: a shared body would go over steps that only
+    // some slots allow, and no public call may ask that of its caller.
     fn add(&mut self, slot: usize, bytes: &[u8]) -> Result<(), Refusal>
         ensures verdict { is_ok result ≡ nat_le (length bytes.now) ((meaning self.old).room slot) }
         ensures added { Accepted result (Added (meaning self.old) slot bytes.now (meaning self.new)) }

@@ -6,18 +6,10 @@ use std::io::Write;
 use store::{Refusal, Store};
 use volume_store::VolumeStore;
 
-fn reason(refusal: Refusal) -> &'static str {
-    match refusal {
-        Refusal::NoRoom => "no room",
-        Refusal::Unpublishable => "cannot be published",
-        Refusal::Absent => "nothing under that name",
-    }
-}
-
 fn tell(rt: &HostRuntime, what: &str, answer: Result<(), Refusal>) -> anyhow::Result<()> {
     match answer {
         Ok(()) => println!(rt; "{what}: done")?,
-        Err(refusal) => println!(rt; "{what}: refused, {}", reason(refusal))?,
+        Err(refusal) => println!(rt; "{what}: refused, {refusal}")?,
     }
     Ok(())
 }
@@ -43,7 +35,7 @@ fn copy_out<S: Store>(rt: &HostRuntime, store: &S, name: &[u8]) -> anyhow::Resul
         let mut page = [b'.'; 8];
         match store.copy(name, part * 8, &mut page) {
             Ok(n) => println!(rt; "part {part}: {n} bytes")?,
-            Err(refusal) => println!(rt; "part {part}: {}", reason(refusal))?,
+            Err(refusal) => println!(rt; "part {part}: {refusal}")?,
         }
         rt.stdout().write_all(&page)?;
         println!(rt)?;
@@ -83,15 +75,10 @@ fn publish_twice<S: Store>(rt: &HostRuntime, store: &mut S) -> anyhow::Result<()
 
 fn main(rt: HostRuntime) -> anyhow::Result<()> {
     println!(&rt; "two pages of 4,096 bytes")?;
-    match PageStore::new(vec![in rt.alloc(); 0u8; 8192]?) {
-        Ok(mut store) => story(&rt, &mut store)?,
-        Err(_) => println!(&rt; "no page store")?,
-    }
+    let region = vec![in rt.alloc(); 0u8; 8192]?;
+    story(&rt, &mut PageStore::new(region)?)?;
     println!(&rt)?;
     println!(&rt; "16 slots of 64 bytes and a volume")?;
-    match VolumeStore::new(vec![in rt.alloc(); 0u8; 1200]?, 64, 0) {
-        Ok(mut store) => story(&rt, &mut store)?,
-        Err(_) => println!(&rt; "no volume store")?,
-    }
-    Ok(())
+    let region = vec![in rt.alloc(); 0u8; 1200]?;
+    story(&rt, &mut VolumeStore::new(region, 64, 0)?)
 }

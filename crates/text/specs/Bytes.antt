@@ -1,5 +1,5 @@
 -- The classes of bytes after RFC 2616, section 2.2, where the tab counts as a separator; the sets of bytes that a head is made of.
-use Rattle.std.specs.Prelude.{ℕ, Bool, true, false, cond, not, ◌&&◌, ◌||◌, List, [], ◌∷◌, codes, ◌==◌, nat_le}
+use Rattle.std.specs.Prelude.{ℕ, Bool, false, cond, not, ◌&&◌, ◌||◌, List, [], ◌∷◌, codes, ◌==◌, nat_le}
 use Rattle.std.specs.Char.{is_ascii_digit}
 use Rattle.text.specs.declared.Class.{Class}
 use Rattle.text.specs.declared.Class.TheVariants.{Control, Separator, Token, Other}
@@ -50,7 +50,3 @@ passes_as Value b = value_byte b
 passes_as Visible b = visible b
 passes_as Divider b = divider b
 passes_as Digit b = is_ascii_digit b
-
-abbrev pub every : (ℕ → Bool) → List ℕ → Bool
-every p [] = true
-every p (b ∷ bs) = p b && every p bs

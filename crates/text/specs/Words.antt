@@ -1,5 +1,6 @@
--- Outer blanks cut off, and texts that are the same but for letter case.
-use Rattle.std.specs.Prelude.{ℕ, ◌-◌, Bool, List, map, length, take, drop}
+-- Outer blanks cut off, texts that are the same but for letter case, and tables of such.
+use Rattle.std.specs.Prelude.{ℕ, ◌-◌, Bool, cond, List, [], ◌∷◌, map, length, take, drop, Some, None, Option}
+use Rattle.std.specs.Borrow.{Bor}
 use Rattle.std.specs.Char.{to_ascii_lowercase}
 use Rattle.std.specs.List.{prefix_len, suffix_len}
 use Rattle.std.specs.Str.{bytes_eq}
@@ -16,3 +17,8 @@ trimmed s = trim_end (trim_front s)
 
 unfoldable pub same_letters : List ℕ → List ℕ → Bool
 same_letters a b = bytes_eq (map to_ascii_lowercase a) (map to_ascii_lowercase b)
+
+-- what a table has for a word, at its first name that is the word but for letter case
+abbrev pub named : {T : Type 0} → List (Bor (List ℕ) × T) → List ℕ → Option T
+named [] word = None
+named (entry ∷ table) word = cond (same_letters word entry.0.now) (Some entry.1) (named table word)

@@ -2,9 +2,9 @@
 #![tactic(auto)]
 
 ghost use Rattle.std.specs.Prelude.{◌≡◌, ◌≤◌, length};
-ghost use Rattle.std.specs.List.{prefix_len};
-ghost use Rattle.text.specs.Bytes.{class_of, passes_as, every};
-ghost use Rattle.text.specs.Words.{trim_front, trim_end, trimmed, same_letters};
+ghost use Rattle.std.specs.List.{prefix_len, list_all};
+ghost use Rattle.text.specs.Bytes.{class_of, passes_as};
+ghost use Rattle.text.specs.Words.{trim_front, trim_end, trimmed, same_letters, named};
 ghost use Rattle.text.specs.Numbers.{decimal_of};
 
 #[derive(Clone, Copy)]
@@ -23,6 +23,7 @@ const T: Class = Class::Token;
 
 const O: Class = Class::Other;
 
+// A table, so that the whole of it is read beside the standard's list.
 static CLASS: [Class; 256] = [
     C, C, C, C, C, C, C, C, C, S, C, C, C, C, C, C, C, C, C, C, C, C, C, C, C, C, C, C, C, C, C, C,
     S, T, S, T, T, T, T, T, S, S, T, T, S, T, T, S, T, T, T, T, T, T, T, T, T, T, S, S, S, S, S, S,
@@ -41,7 +42,7 @@ pub fn class_of(b: u8) -> Class
     CLASS[b as usize]
 }
 
-// The sets of bytes that the parts of a head are made of.
+// The sets of bytes that the parts of a head are made of. A set is a name, not a closure: a contract is then one equation.
 #[derive(Clone, Copy)]
 pub enum Kind {
     // a field's name
@@ -63,17 +64,11 @@ fn passes(kind: Kind, b: u8) -> bool
     ensures { result ≡ passes_as kind b }
 {
     match kind {
-        Kind::Name => match class_of(b) {
-            Class::Token => true,
-            _ => false,
-        },
-        Kind::Blank => b == b' ' || b == b'\t',
-        Kind::Value => match class_of(b) {
-            Class::Control => false,
-            _ => true,
-        },
-        Kind::Visible => b >= 0x21 && b <= 0x7e,
-        Kind::Divider => b == b' ' || b == b'\t' || b == b',',
+        Kind::Name => matches!(class_of(b), Class::Token),
+        Kind::Blank => matches!(b, b' ' | b'\t'),
+        Kind::Value => !matches!(class_of(b), Class::Control),
+        Kind::Visible => b.is_ascii_graphic(),
+        Kind::Divider => matches!(b, b' ' | b'\t' | b','),
         Kind::Digit => b.is_ascii_digit(),
     }
 }
@@ -83,19 +78,14 @@ pub fn lead(kind: Kind, s: &[u8]) -> usize
     ensures value { result ≡ prefix_len (passes_as kind) s.now }
     ensures within { result ≤ length s.now }
 {
-    for (i, b) in s.iter().enumerate() {
-        if !passes(kind, *b) {
-            return i;
-        }
-    }
-    s.len()
+    s.iter().position(|b| !passes(kind, *b)).unwrap_or(s.len())
 }
 
 // Whether every byte belongs to the set.
 pub fn all(kind: Kind, s: &[u8]) -> bool
-    ensures { result ≡ every (passes_as kind) s.now }
+    ensures { result ≡ list_all (passes_as kind) s.now }
 {
-    lead(kind, s) == s.len()
+    s.iter().all(|b| passes(kind, *b))
 }
 
 fn trim_front(s: &[u8]) -> &[u8]
@@ -104,17 +94,17 @@ fn trim_front(s: &[u8]) -> &[u8]
     &s[lead(Kind::Blank, s)..]
 }
 
-fn trim_end(s: &[u8]) -> &[u8]
+fn trim_end(mut s: &[u8]) -> &[u8]
     ensures { result.now ≡ trim_end s.now }
 {
-    let mut n = s.len();
-    while n > 0 && passes(Kind::Blank, s[n - 1]) {
-        n -= 1;
+    while let [rest @ .., b' ' | b'\t'] = s {
+        s = rest;
     }
-    &s[0..n]
+    s
 }
 
 // `s` without its outer blanks.
+#[tactic(auto, unfolding(crate::specs::Words::trimmed))]
 pub fn trim(s: &[u8]) -> &[u8]
     ensures { result.now ≡ trimmed s.now }
 {
@@ -126,6 +116,16 @@ pub fn same_letters(a: &[u8], b: &[u8]) -> bool
     ensures { result ≡ same_letters a.now b.now }
 {
     a.eq_ignore_ascii_case(b)
+}
+
+// What a table has for a word in any letter case.
+pub fn named<T: Copy>(table: &[(&[u8], T)], word: &[u8]) -> Option<T>
+    ensures { result ≡ named table.now word.now }
+{
+    table
+        .iter()
+        .find(|entry| same_letters(word, entry.0))
+        .map(|entry| entry.1)
 }
 
 // The most digits that a number may have: every such number fits 64 bits.
@@ -140,10 +140,7 @@ pub fn read_decimal(s: &[u8]) -> Option<u64>
     }
     let mut n: u64 = 0;
     for b in s {
-        if !b.is_ascii_digit() {
-            return None;
-        }
-        n = n * 10 + (*b - b'0') as u64;
+        n = n * 10 + u64::from(char::from(*b).to_digit(10)?);
     }
     Some(n)
 }

@@ -1,7 +1,7 @@
 -- Numbers written high byte first.
-use Rattle.std.proofs.Common.{◌≡◌, ℕ, zero, suc, ◌+◌, ◌*◌, ◌/◌, ◌%◌, ◌^◌, ◌<◌, ◌≤◌, [], ◌∷◌, ◌++◌, length, refl, ◌∙◌, arith, length-append}
-use native.Mathlib.Nat.{pow-succ', pow-le-pow_right}
-use Rattle.std.proofs.lemmas.List.{same_from_push}
+use Rattle.std.proofs.Common.{◌≡◌, ℕ, zero, suc, ◌+◌, ◌*◌, ◌/◌, ◌%◌, ◌^◌, ◌<◌, ◌≤◌, List, [], ◌∷◌, ◌++◌, length, get_or, take, sym, refl, ap, ◌∙◌, add-one, arith, length-append}
+use native.Mathlib.Nat.{pow-succ'}
+use Rattle.std.proofs.lemmas.List.{same_from_push, take_more}
 use Rattle.volume.specs.Bundles.{big_endian}
 
 pub length-big_endian : (w n : ℕ) → length (big_endian w n) ≡ w
@@ -29,12 +29,20 @@ big_endian-same (suc w) m n a b e =
     let r : m % 256 ≡ n % 256 = p.1 in
     omega arith
 
--- a number of fewer than eight bytes has room for one byte more
-pub room-more : (w n b : ℕ) → w < 8 → b < 256 → n < 256 ^ w → n * 256 + b < 2 ^ 64
-room-more w n b h k l =
-    let w8 : suc w ≤ 8 = omega arith in
-    let top : 256 ^ suc w ≤ 256 ^ 8 = pow-le-pow_right (omega arith) w8 in
-    omega (arith, under_more w n b k l)
+-- the number in the first w bytes
+abbrev pub value : ℕ → List ℕ → ℕ
+value zero t = 0
+value (suc w) t = value w t * 256 + get_or t w 0
+
+pub value-is : (w : ℕ) (t : List ℕ) → w ≤ length t → ((i : ℕ) → get_or t i 0 < 256) → (take w t ≡ big_endian w (value w t)) × (value w t < 256 ^ w)
+unfolding big_endian
+value-is zero t h small = (refl, omega arith)
+value-is (suc w) t h small =
+    let front = value-is w t (omega arith) small in
+    let more : take (suc w) t ≡ take w t ++ (get_or t w 0 ∷ []) = ap (λ k. take k t) (sym (add-one w)) ∙ take_more t w 0 (omega arith) in (
+      more ∙ ap (λ l. l ++ (get_or t w 0 ∷ [])) front.0 ∙ sym (big_endian-more w (value w t) (get_or t w 0) (small w)),
+      under_more w (value w t) (get_or t w 0) (small w) front.1,
+    )
 
 -- the bytes one by one, as the library writes them
 pub eight-bytes : (n : ℕ) → n / 72057594037927936 % 256 ∷ n / 281474976710656 % 256 ∷ n / 1099511627776 % 256 ∷ n / 4294967296 % 256 ∷ n / 16777216 % 256 ∷ n / 65536 % 256 ∷ n / 256 % 256 ∷ n % 256 ∷ [] ≡ big_endian 8 n

@@ -1,7 +1,6 @@
 -- One stretch written behind another, and a bundle behind a volume.
 use Rattle.std.proofs.Common.{◌≡◌, ℕ, ◌+◌, ◌-◌, ◌^◌, ◌<◌, ◌≤◌, Bool, true, false, cond, eqb, ltb, leb, List, [], ◌∷◌, ◌++◌, length, take, drop, Some, None, Option, sym, refl, ap, ◌∙◌, subst₂, append_assoc, zero-add, arith, length-append, length-drop}
 use lib.Seq.{paste}
-use borrow.Rule.Slice.PartMut.{put_mid}
 use Rattle.std.proofs.ByRecursion.{All-push}
 use Rattle.std.proofs.lemmas.List.{take_at, drop_at, drop-drop, take-append-drop, length-take-le, flat_map_more}
 use Rattle.volume.specs.Bundles.{Bundle, bytes_of, trailer, Proper, Volume, newest}
@@ -11,13 +10,6 @@ use Rattle.volume.specs.declared.bundle.Refusal.{Refusal}
 use Rattle.volume.specs.declared.bundle.Refusal.TheVariants.{EmptyEntity, EmptyName, LongName, Outside, NoRoom}
 use Rattle.volume.proofs.Joins.{length-bytes_of}
 use Rattle.volume.proofs.Laws.{unique}
-
--- what a write to a part of a slice leaves
-pub put-part : (p s t : List ℕ) (at k : ℕ) → k ≡ length s → t ≡ s → Put p at s (put_mid at k p t) (at + length s)
-put-part p s t at k long same = record {
-  ends = refl;
-  bytes = ap (put_mid at k p) same ∙ ap (λ l. take at p ++ (s ++ l)) (drop-drop k at p ∙ ap (λ n. drop (at + n) p) long);
-}
 
 pub put-pasted : (p s : List ℕ) (at n : ℕ) → n ≤ length s → Put p at (take n s) (paste p at s n) (at + n)
 put-pasted p s at n h = record {

@@ -1,33 +1,38 @@
 -- The trailer at the end of bytes, and that a fault leaves no bundle there.
-use Rattle.std.proofs.Common.{◌≡◌, ℕ, zero, suc, ◌+◌, ◌-◌, ◌^◌, ◌<◌, ◌≤◌, List, [], ◌∷◌, ◌++◌, length, take, drop, codes, sym, refl, ap, ◌∙◌, subst, ⊎_elim, append_assoc, eq-or-lt_of_le, arith, length-append}
+use Rattle.std.proofs.Common.{◌≡◌, ℕ, zero, suc, ◌+◌, ◌-◌, ◌*◌, ◌^◌, ◌<◌, ◌≤◌, List, [], ◌∷◌, ◌++◌, length, take, drop, codes, get_or, sym, refl, ap, ◌∙◌, subst, ⊎_elim, append_assoc, eq-or-lt_of_le, arith, length-append, length-drop, get_or-drop}
 use Rattle.std.specs.List.{between}
 use Rattle.std.proofs.lemmas.List.Edits.{split_between, length-between}
 use Rattle.std.proofs.lemmas.List.Prefix.{end_rest}
 use Rattle.std.proofs.lemmas.Bool.{cases_order}
-use Rattle.std.proofs.lemmas.List.{length-take-le}
+use Rattle.std.proofs.lemmas.List.{length-take-le, drop-drop, take-append-drop}
+use Rattle.volume.proofs.Numbers.{value, value-is}
 use Rattle.volume.specs.Bundles.{Bundle, big_endian, trailer, distance, bytes_of}
 use Rattle.volume.specs.Reads.{Placed, Ends, Trailed, EndsWith, Passes, rank, Faulty}
 use Rattle.volume.specs.declared.bundle.Fault.{Fault}
 use Rattle.volume.specs.declared.bundle.Fault.TheVariants.{NoTrailer, NoMark, NoZeros, NameLength, NoEntity, TooFar}
 use Rattle.volume.proofs.Joins.{drop-between, split-right, length-trailer, length-bytes_of, trailer-same, apart, name-long}
 
--- the fields of a trailer read one by one
-pub trailed : (s : List ℕ) (d n : ℕ) → 16 ≤ length s → between (length s - 16) (length s - 8) s ≡ big_endian (length (between (length s - 16) (length s - 8) s)) d → d < 256 ^ length (between (length s - 16) (length s - 8) s) → between (length s - 8) (length s - 6) s ≡ big_endian (length (between (length s - 8) (length s - 6) s)) n → n < 256 ^ length (between (length s - 8) (length s - 6) s) → EndsWith s (0 ∷ 0 ∷ codes "HALL") → Trailed s d n
-trailed s d n long wd hd wn hn e =
-    let L = length s in
-    let l8 : length (between (L - 16) (L - 8) s) ≡ 8 = length-between s (L - 16) (L - 8) (omega arith) ∙ omega arith in
-    let l2 : length (between (L - 8) (L - 6) s) ≡ 2 = length-between s (L - 8) (L - 6) (omega arith) ∙ omega arith in
-    let mid : drop (L - 8) s ≡ between (L - 8) (L - 6) s ++ drop (L - 6) s = drop-between s (L - 8) (L - 6) (omega arith) (omega arith) in
-    let rest : drop (L - 6) s ≡ 0 ∷ 0 ∷ codes "HALL" = end_rest s (0 ∷ 0 ∷ codes "HALL") e.0 e.1 in
+-- the two numbers of a trailer, read byte by byte
+pub trailed : (s t : List ℕ) (d n : ℕ) → 16 ≤ length s → t ≡ drop (length s - 16) s → ((i : ℕ) → get_or s i 0 < 256) → d ≡ value 8 t → n ≡ get_or t 8 0 * 256 + get_or t 9 0 → EndsWith s (0 ∷ 0 ∷ codes "HALL") → Trailed s d n
+trailed s t d n long is small hd hn e =
+    let from = length s - 16 in
+    let lt : length t ≡ 16 = ap length is ∙ length-drop from s ∙ omega arith in
+    let l8 : length (drop 8 t) ≡ 8 = length-drop 8 t ∙ omega arith in
+    let within : (i : ℕ) → get_or t i 0 < 256 = λ i. subst (λ x. x < 256) (sym (ap (λ l. get_or l i 0) is ∙ get_or-drop from s i 0)) (small (from + i)) in
+    let behind : (i : ℕ) → get_or (drop 8 t) i 0 < 256 = λ i. subst (λ x. x < 256) (sym (get_or-drop 8 t i 0)) (within (8 + i)) in
+    let nd : n ≡ value 2 (drop 8 t) = omega (arith, hn, get_or-drop 8 t 0 0, get_or-drop 8 t 1 0) in
+    let dv = value-is 8 t (omega arith) within in
+    let nv = value-is 2 (drop 8 t) (omega arith) behind in
+    let past : from + 8 + 2 ≡ length s - 6 = omega arith in
+    let rest : drop 2 (drop 8 t) ≡ 0 ∷ 0 ∷ codes "HALL" =
+    ap (λ l. drop 2 (drop 8 l)) is ∙ ap (drop 2) (drop-drop 8 from s) ∙ drop-drop 2 (from + 8) s ∙ ap (λ k. drop k s) past ∙ end_rest s (0 ∷ 0 ∷ codes "HALL") e.0 e.1 in
+    let numbers : drop 8 t ≡ big_endian 2 n ++ (0 ∷ 0 ∷ codes "HALL") = sym (take-append-drop 2 (drop 8 t)) ∙ (λ i. (nv.0 ∙ ap (big_endian 2) (sym nd)) i ++ rest i) in
+    let whole : t ≡ trailer d n = sym (take-append-drop 8 t) ∙ (λ i. (dv.0 ∙ ap (big_endian 8) (sym hd)) i ++ numbers i) in
     record {
-      before = take (L - 16) s;
-      joins =
-          split_between s (L - 16) (L - 8) (omega arith)
-          ∙ ap (λ l. take (L - 16) s ++ (between (L - 16) (L - 8) s ++ l)) (mid ∙ ap (λ l. between (L - 8) (L - 6) s ++ l) rest)
-          ∙ ap (λ l. take (L - 16) s ++ (l ++ (between (L - 8) (L - 6) s ++ (0 ∷ 0 ∷ codes "HALL")))) (wd ∙ ap (λ k. big_endian k d) l8)
-          ∙ ap (λ l. take (L - 16) s ++ (big_endian 8 d ++ (l ++ (0 ∷ 0 ∷ codes "HALL")))) (wn ∙ ap (λ k. big_endian k n) l2);
-      reach = subst (λ k. d < 256 ^ k) l8 hd;
-      long = subst (λ k. n < 256 ^ k) l2 hn;
+      before = take from s;
+      joins = sym (take-append-drop from s) ∙ ap (λ l. take from s ++ l) (sym is ∙ whole);
+      reach = subst (λ k. k < 256 ^ 8) (sym hd) dv.1;
+      long = subst (λ k. k < 256 ^ 2) (sym nd) nv.1;
     }
 
 pub trailed-same : (s : List ℕ) (d n e m : ℕ) → Trailed s d n → Trailed s e m → (d ≡ e) × (n ≡ m)

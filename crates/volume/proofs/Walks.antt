@@ -1,10 +1,10 @@
 -- One step of the walk back from the end, and what the walk has seen.
-use Rattle.std.proofs.Common.{◌≡◌, ℕ, ◌+◌, ◌-◌, ◌<◌, ◌≤◌, Bool, true, false, cond, List, [], ◌∷◌, ◌++◌, reverse, length, take, drop, Some, None, sym, refl, ap, ◌∙◌, subst, append_assoc, arith}
+use Rattle.std.proofs.Common.{◌≡◌, ℕ, ◌+◌, ◌≤◌, Bool, true, false, cond, List, [], ◌∷◌, ◌++◌, reverse, length, take, drop, Some, None, sym, refl, ap, ◌∙◌, subst, append_assoc, append-nil, arith, length-append}
 use mathlib.Core.List.{reverse-append, reverse-reverse}
-use Rattle.std.specs.List.{AllByRecursion}
+use Rattle.std.specs.List.{flat_map, AllByRecursion}
 use Rattle.std.specs.Str.{bytes_eq}
 use Rattle.std.proofs.lemmas.Slice.Eq.{bytes_eq-Decides}
-use Rattle.std.proofs.lemmas.List.{take-append-drop, drop_at, drop_all, length-take-le}
+use Rattle.std.proofs.lemmas.List.{take-append-drop, take_at, drop_at, length-take-le}
 use Rattle.volume.specs.Bundles.{Bundle, bytes_of, Proper, Volume, later, newest}
 use Rattle.volume.specs.Reads.{Placed, Ends, Tail, Faulty, Stopped, Damaged, Without, laid}
 use Rattle.volume.specs.declared.bundle.Damage.{Damage}
@@ -13,34 +13,55 @@ use Rattle.volume.proofs.Joins.{length-bytes_of}
 use Rattle.volume.proofs.Laws.{back, back-reverse, all-reverse, Front, front_of}
 use Rattle.volume.proofs.Trailers.{ends-long, faulty-none}
 
-pub tail_none : (s : List ℕ) → Tail s (length s) []
-tail_none s = record { within = omega arith; volume = record { each = tt; is = drop_all (length s) s (omega arith) } }
+-- the walk back over s has told the bundles bs, and the bytes x are left
+pub record Walked (s x : List ℕ) (bs : List Bundle) : Type 0 where
+  pub joins : s ≡ x ++ flat_map bytes_of bs
+  pub each : AllByRecursion Proper bs
 
-pub tail-whole : (s : List ℕ) (end : ℕ) (bs : List Bundle) → end ≤ 0 → Tail s end bs → Volume s bs
-tail-whole s end bs h t =
-    let z : end ≡ 0 = omega arith in
-    record { each = t.volume.each; is = ap (λ k. drop k s) (sym z) ∙ t.volume.is }
+pub walked_none : (s : List ℕ) → Walked s s []
+walked_none s = record { joins = sym (append-nil s); each = tt }
 
--- `&bytes[0..end]` holds the bytes before `end`
-front-is : (s : List ℕ) (end : ℕ) → take (end - 0) s ≡ take end s
-front-is s end = let z : end - 0 ≡ end = omega arith in ap (λ k. take k s) z
+pub walked-whole : (s x : List ℕ) (bs : List Bundle) → Walked s x bs → x ≡ [] → Volume s bs
+walked-whole s x bs w z = record { each = w.each; is = w.joins ∙ ap (λ l. l ++ flat_map bytes_of bs) z }
 
-pub falls : (s : List ℕ) (end : ℕ) (p : Placed) → end ≤ length s → Ends (take (end - 0) s) p → p.at + 16 ≤ end
-falls s end p h e = omega (arith, ends-long (take (end - 0) s) p e, ap length (front-is s end), length-take-le end s h)
+pub tail : (s x : List ℕ) (bs : List Bundle) → Walked s x bs → Tail s (length x) bs
+tail s x bs w = record {
+  within = omega (arith, ap length w.joins, length-append x (flat_map bytes_of bs));
+  volume = record { each = w.each; is = ap (drop (length x)) w.joins ∙ drop_at x (flat_map bytes_of bs) (length x) refl };
+}
 
-pub tail_more : (s : List ℕ) (end : ℕ) (bs : List Bundle) (p : Placed) → Tail s end bs → Ends (take (end - 0) s) p → Tail s p.at (p.bundle ∷ bs)
-tail_more s end bs p t e =
-    let whole : s ≡ e.before ++ (bytes_of p.bundle ++ drop end s) = sym (take-append-drop end s) ∙ ap (λ l. l ++ drop end s) (sym (front-is s end) ∙ e.joins) ∙ append_assoc e.before (bytes_of p.bundle) (drop end s) in
-    record {
-      within = omega (arith, falls s end p t.within e);
-      volume = record {
-        each = (e.proper, t.volume.each);
-        is = ap (drop p.at) whole ∙ drop_at e.before _ p.at e.starts ∙ ap (λ l. bytes_of p.bundle ++ l) t.volume.is;
-      };
-    }
+-- one step of the walk: x ends in the bundle p, and y is left
+module _ (x y : List ℕ) (p : Placed) (e : Ends x p) (is : y ≡ take p.at x) where
+  front-is : y ≡ e.before
+  front-is = is ∙ ap (take p.at) e.joins ∙ take_at e.before (bytes_of p.bundle) p.at e.starts
 
-pub stopped : (s : List ℕ) (end : ℕ) (bs : List Bundle) (f : Fault) → Tail s end bs → 0 < end → Faulty (take (end - 0) s) f → Stopped s (record { end = end; fault = f }) bs
-stopped s end bs f t some h = record { sound = t; some = some; fault = subst (λ l. Faulty l f) (front-is s end) h }
+  pub falls : (length y ≡ p.at) × (length y + 16 ≤ length x)
+  falls = (ap length front-is ∙ e.starts, omega (arith, ap length front-is, e.starts, ends-long x p e))
+
+  pub walked_more : (s : List ℕ) (bs : List Bundle) → Walked s x bs → Walked s y (p.bundle ∷ bs)
+  walked_more s bs w = record {
+    joins =
+        w.joins ∙ ap (λ l. l ++ flat_map bytes_of bs) (e.joins ∙ ap (λ l. l ++ bytes_of p.bundle) (sym front-is))
+        ∙ append_assoc y (bytes_of p.bundle) (flat_map bytes_of bs);
+    each = (e.proper, w.each);
+  }
+
+  pub tail_more : (s : List ℕ) (bs : List Bundle) → Walked s x bs → Tail s p.at (p.bundle ∷ bs)
+  tail_more s bs w = subst (λ k. Tail s k (p.bundle ∷ bs)) falls.0 (tail s y (p.bundle ∷ bs) (walked_more s bs w))
+
+  -- the list of the bundles told, the newest first
+  pub laid_more : (bs : List Bundle) → reverse (laid (length y) (p.bundle ∷ bs)) ≡ reverse (laid (length x) bs) ++ (p ∷ [])
+  laid_more bs =
+      let next : length y + length (bytes_of p.bundle) ≡ length x = omega (arith, falls.0, ends-long x p e, length-bytes_of p.bundle) in
+      reverse-append (record { at = length y; bundle = p.bundle } ∷ []) (laid (length y + length (bytes_of p.bundle)) bs)
+      ∙ (λ i. reverse (laid (next i) bs) ++ (record { at = falls.0 i; bundle = p.bundle } ∷ []))
+
+pub stopped : (s x : List ℕ) (bs : List Bundle) (d : Damage) → Walked s x bs → 1 ≤ d.end → d.end ≡ length x → Faulty x d.fault → Stopped s d bs
+stopped s x bs d w some end h = record {
+  sound = subst (λ k. Tail s k bs) (sym end) (tail s x bs w);
+  some = some;
+  fault = subst (λ l. Faulty l d.fault) (sym (ap (take d.end) w.joins ∙ take_at x (flat_map bytes_of bs) d.end (sym end))) h;
+}
 
 -- the bundles of a volume that stand before those of a tail
 front-tail : (s : List ℕ) (bs : List Bundle) (at : ℕ) (rest : List Bundle) → Volume s bs → Tail s at rest → Front (reverse bs) (reverse rest) (take at s)
@@ -87,9 +108,3 @@ newest-tail s name bs at b rest v t e h =
     let f = front-tail s bs at (b ∷ rest) v t in
     let split : bs ≡ reverse f.front ++ (b ∷ rest) = sym (reverse-reverse bs) ∙ ap reverse f.is ∙ reverse-append (reverse (b ∷ rest)) f.front ∙ ap (λ l. reverse f.front ++ l) (reverse-reverse (b ∷ rest)) in
     ap (newest name) split ∙ newest-append name (reverse f.front) (b ∷ rest) b (newest-here name b rest e h)
-
--- one bundle more in the list, the newest first
-pub laid_more : (s : List ℕ) (end : ℕ) (bs : List Bundle) (p : Placed) → end ≤ length s → Ends (take (end - 0) s) p → reverse (laid p.at (p.bundle ∷ bs)) ≡ reverse (laid end bs) ++ (p ∷ [])
-laid_more s end bs p h e =
-    let next : p.at + length (bytes_of p.bundle) ≡ end = omega (arith, ends-long (take (end - 0) s) p e, ap length (front-is s end), length-take-le end s h, length-bytes_of p.bundle) in
-    reverse-append (p ∷ []) (laid (p.at + length (bytes_of p.bundle)) bs) ∙ ap (λ k. reverse (laid k bs) ++ (p ∷ [])) next

@@ -6,6 +6,7 @@ use Rattle.volume.specs.declared.bundle.BundleRef.{BundleRef}
 use Rattle.volume.specs.declared.bundle.Found.{Found}
 use Rattle.volume.specs.declared.bundle.Damage.{Damage}
 use Rattle.volume.specs.declared.bundle.Fault.{Fault}
+use Rattle.volume.specs.declared.walk.Bundles.{Bundles}
 use Rattle.volume.specs.declared.bundle.Fault.TheVariants.{NoTrailer, NoMark, NoZeros, NameLength, NoEntity, TooFar}
 
 -- a bundle and the offset of its first byte
@@ -70,6 +71,13 @@ pub record NoBundle (s : List ℕ) (f : Fault) : Type 0 where
   pub fault : Faulty s f
   pub only : (g : Fault) → Faulty s g → g ≡ f
   pub none : (p : Placed) → Ends s p → ⊥
+
+-- one step of the walk back, from the bytes that are left: nothing where none are; the bundle in which they end, and
+-- what stands before it is left; or damage, and nothing is left
+abbrev pub Steps : Bundles → Option (Result Found Damage) → Bundles → Type 0
+Steps s None t = (s.left.now ≡ []) × (t.left.now ≡ [])
+Steps s (Some (Ok f)) t = Ends s.left.now (placed f) × (t.left.now ≡ take f.at s.left.now)
+Steps s (Some (Err d)) t = (1 ≤ d.end) × (d.end ≡ length s.left.now) × NoBundle s.left.now d.fault × (t.left.now ≡ [])
 
 -- from `at` on, s is the bundles bs joined
 pub record Tail (s : List ℕ) (at : ℕ) (bs : List Bundle) : Type 0 where

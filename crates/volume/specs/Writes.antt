@@ -1,5 +1,5 @@
 -- What writing one bundle more does to a region.
-use Rattle.std.specs.Prelude.{◌≡◌, ℕ, ◌+◌, ◌≤◌, Bool, cond, List, [], ◌∷◌, ◌++◌, length, take, drop, Some, None, Ok, Err, Option, Result, ◌==◌, nat_le, nat_lt}
+use Rattle.std.specs.Prelude.{◌≡◌, ℕ, ◌+◌, ◌≤◌, Bool, cond, List, [], ◌∷◌, ◌++◌, length, take, drop, Some, None, Option, ◌==◌, nat_le, nat_lt}
 use Rattle.volume.specs.Bundles.{Bundle, bytes_of, Proper, Volume, newest}
 use Rattle.volume.specs.declared.bundle.Refusal.{Refusal}
 use Rattle.volume.specs.declared.bundle.Refusal.TheVariants.{EmptyEntity, EmptyName, LongName, Outside, NoRoom}
@@ -25,10 +25,6 @@ pub record Appended (region : List ℕ) (base used : ℕ) (b : Bundle) (after : 
   pub fits : base + end ≤ length region
   pub put : Put region (base + used) (bytes_of b) after (base + end)
   pub volume : (bs : List Bundle) → Volume (volume_in region base used) bs → Volume (volume_in after base end) (bs ++ (b ∷ []))
-
-abbrev pub refused_by : Result ℕ Refusal → Option Refusal
-refused_by (Ok end) = None
-refused_by (Err e) = Some e
 
 -- the volume at the start of a region is the bundles bs; what lies past it is as it was
 pub record Packed (region : List ℕ) (bs : List Bundle) (after : List ℕ) (used : ℕ) : Type 0 where

@@ -1,9 +1,10 @@
 // Reading a volume back from its last byte.
-ghost use Rattle.std.specs.Prelude.{◌≡◌, ℕ, ◌+◌, ◌^◌, ◌<◌, ◌≤◌, List, length, Some, Ok, Err};
-ghost use Rattle.volume.specs.Bundles.{Bundle, Unique, Volume, big_endian, newest};
+ghost use Rattle.std.specs.Prelude.{◌≡◌, List};
+ghost use Rattle.volume.specs.Bundles.{Bundle, Unique, Volume, newest};
 ghost use Rattle.volume.specs.Reads.{Counted, Damaged, Ends, Faulty, NoBundle, Searched, Trailed, answer, placed};
 
 use crate::bundle::{BundleRef, Damage, Fault, Found, LONGEST_NAME, TRAILER};
+use crate::walk::newest_first;
 
 // The two numbers of a trailer.
 struct Trailer {
@@ -11,36 +12,22 @@ struct Trailer {
     name_len: usize,
 }
 
-// The number that at most eight bytes write, high byte first.
-fn number(bytes: &[u8]) -> usize
-    requires { length bytes.now ≤ 8 }
-    ensures wrote { bytes.now ≡ big_endian (length bytes.now) result }
-    ensures fits { result < 256 ^ length bytes.now }
-{
-    let mut n: usize = 0;
-    for b in bytes {
-        n = n * 256 + *b as usize;
-    }
-    n
-}
-
 // The trailer in which the bytes end.
 fn read_trailer(bytes: &[u8]) -> Result<Trailer, Fault>
     ensures { elim result [ Ok t ↦ Trailed bytes.now t.distance t.name_len | Err e ↦ Faulty bytes.now e ] }
 {
-    let len = bytes.len();
-    if len < TRAILER {
-        return Err(Fault::NoTrailer);
-    }
+    let trailer = bytes.last_chunk::<TRAILER>().ok_or(Fault::NoTrailer)?;
     if !bytes.ends_with(b"HALL") {
         return Err(Fault::NoMark);
     }
     if !bytes.ends_with(b"\0\0HALL") {
         return Err(Fault::NoZeros);
     }
-    let distance = number(&bytes[len - 16..len - 8]);
-    let name_len = number(&bytes[len - 8..len - 6]);
-    Ok(Trailer { distance, name_len })
+    let [d0, d1, d2, d3, d4, d5, d6, d7, n0, n1, ..] = *trailer;
+    Ok(Trailer {
+        distance: usize::from_be_bytes([d0, d1, d2, d3, d4, d5, d6, d7]),
+        name_len: u16::from_be_bytes([n0, n1]) as usize,
+    })
 }
 
 // The bundle in which the bytes end.
@@ -72,16 +59,10 @@ pub fn check(bytes: &[u8]) -> Result<usize, Damage>
     ensures unique { Unique }
     ensures exact { elim result [ Ok n ↦ Counted bytes.now n | Err d ↦ Damaged bytes.now d ] }
 {
-    let mut end = bytes.len();
     let mut count: usize = 0;
-    while end > 0 {
-        match last(&bytes[0..end]) {
-            Ok(found) => {
-                end = found.at;
-                count += 1;
-            }
-            Err(fault) => return Err(Damage { end, fault }),
-        }
+    for found in newest_first(bytes) {
+        found?;
+        count += 1;
     }
     Ok(count)
 }
@@ -91,16 +72,10 @@ pub fn find<'a>(bytes: &'a [u8], name: &[u8]) -> Result<Option<Found<'a>>, Damag
     ensures searched { Searched bytes.now name.now result }
     ensures newest { (bs : List Bundle) → Volume bytes.now bs → answer result ≡ Some (newest name.now bs) }
 {
-    let mut end = bytes.len();
-    while end > 0 {
-        match last(&bytes[0..end]) {
-            Ok(found) => {
-                if found.bundle.name == name {
-                    return Ok(Some(found));
-                }
-                end = found.at;
-            }
-            Err(fault) => return Err(Damage { end, fault }),
+    for found in newest_first(bytes) {
+        let found = found?;
+        if found.bundle.name == name {
+            return Ok(Some(found));
         }
     }
     Ok(None)

@@ -1,12 +1,14 @@
 // Whole lists of bundles: all of a volume read, and all of one written.
-ghost use Rattle.std.specs.Prelude.{◌≡◌, List, map, length, Ok, Err};
-ghost use Rattle.volume.specs.Bundles.{Bundle, Volume};
-ghost use Rattle.volume.specs.Lists.{Back, Read, Returned, Written};
+ghost use Rattle.std.specs.Prelude.{◌≡◌, length};
+ghost use Rattle.volume.specs.Lists.{Back, Read, Written};
+ghost use Rattle.volume.specs.declared.whole.Unlisted.TheVariants.{Damaged, Memory};
 
 use crate::bundle::{BundleRef, Damage, Found, Refusal};
-use crate::read::last;
+use crate::walk::newest_first;
 use crate::write::append;
-use std::alloc::Global;
+use std::alloc::{AllocFailed, Global};
+use std::error::Error;
+use std::fmt;
 
 // Why a volume is not listed.
 #[derive(Clone, Copy, PartialEq, Eq, Debug)]
@@ -15,6 +17,17 @@ pub enum Unlisted {
     Memory,
 }
 
+impl fmt::Display for Unlisted {
+    fn fmt<W: fmt::Write>(&self, f: &mut fmt::Formatter<W>) -> fmt::Result {
+        match self {
+            Unlisted::Damaged(damage) => write!(f, "{damage}"),
+            Unlisted::Memory => f.write_str("there is not enough memory"),
+        }
+    }
+}
+
+impl Error for Unlisted {}
+
 // The first bundle of a list that was not written, and why.
 #[derive(Clone, Copy, PartialEq, Eq, Debug)]
 pub struct Unwritten {
@@ -22,22 +35,29 @@ pub struct Unwritten {
     pub refusal: Refusal,
 }
 
+impl From<Damage> for Unlisted {
+    ghost from_gives = { λ d e. e ≡ Damaged d };
+
+    fn from(damage: Damage) -> Unlisted {
+        Unlisted::Damaged(damage)
+    }
+}
+
+impl<T: Drop> From<AllocFailed<T>> for Unlisted {
+    ghost from_gives = { λ _ e. e ≡ Memory };
+
+    fn from(_failed: AllocFailed<T>) -> Unlisted {
+        Unlisted::Memory
+    }
+}
+
 // The bundles of a volume, newest first.
 pub fn list<'a>(heap: Global, bytes: &'a [u8]) -> Result<Vec<Found<'a>>, Unlisted>
     ensures { Read bytes.now result }
 {
-    let mut all: Vec<Found<'a>> = Vec::new(heap);
-    let mut end = bytes.len();
-    while end > 0 {
-        match last(&bytes[0..end]) {
-            Ok(found) => {
-                if all.push(found).is_err() {
-                    return Err(Unlisted::Memory);
-                }
-                end = found.at;
-            }
-            Err(fault) => return Err(Unlisted::Damaged(Damage { end, fault })),
-        }
+    let mut all = Vec::new(heap);
+    for found in newest_first(bytes) {
+        all.push(found?)?;
     }
     Ok(all)
 }
@@ -48,10 +68,7 @@ pub fn write_all(region: &mut [u8], bundles: &[BundleRef<'_>]) -> Result<usize, 
 {
     let mut used = 0;
     for (index, bundle) in bundles.iter().enumerate() {
-        match append(region, used, *bundle) {
-            Ok(end) => used = end,
-            Err(refusal) => return Err(Unwritten { index, refusal }),
-        }
+        used = append(region, used, *bundle).map_err(|refusal| Unwritten { index, refusal })?;
     }
     Ok(used)
 }
@@ -71,17 +88,6 @@ pub fn round_trip<'a>(
 ) -> Result<Vec<Found<'a>>, Lost>
     ensures { Back (length region.old) bundles.now result }
 {
-    match write_all(region, bundles) {
-        Ok(used) => read_written(heap, &region[0..used]),
-        Err(unwritten) => Err(Lost::Unwritten(unwritten)),
-    }
-}
-
-fn read_written(heap: Global, bytes: &[u8]) -> Result<Vec<Found<'_>>, Lost>
-    ensures { (bs : List Bundle) → Volume bytes.now bs → Returned bs result }
-{
-    match list(heap, bytes) {
-        Ok(all) => Ok(all),
-        Err(unlisted) => Err(Lost::Unlisted(unlisted)),
-    }
+    let used = write_all(region, bundles).map_err(Lost::Unwritten)?;
+    list(heap, &region[..used]).map_err(Lost::Unlisted)
 }

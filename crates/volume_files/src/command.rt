@@ -10,13 +10,25 @@ volume get FILE NAME    the newest entity of NAME, to standard output
 volume add FILE NAME    one bundle more, its entity from standard input
 volume help             this text";
 
-#[derive(Clone, Copy)]
+// A value and no closure: what is asked for is read, and proved, apart from what is done.
+#[derive(Clone, Copy, PartialEq, Eq, Debug)]
 pub enum Command<'a> {
     Check(&'a str),
     List(&'a str),
     Get(&'a str, &'a str),
     Add(&'a str, &'a str),
     Help,
+}
+
+impl<'a> Command<'a> {
+    // The file and the name that it is about; "" where it has none, which a message then leaves out.
+    pub(crate) fn subject(self) -> (&'a str, &'a str) {
+        match self {
+            Command::Check(file) | Command::List(file) => (file, ""),
+            Command::Get(file, name) | Command::Add(file, name) => (file, name),
+            Command::Help => ("", ""),
+        }
+    }
 }
 
 // The command that the words behind the program's name give.
@@ -31,36 +43,32 @@ pub fn read_command(words: &[String]) -> Option<Command<'_>>
     }
 }
 
+// One function for each number of words, as the definition has it.
 fn lone<'a>(verb: &str) -> Option<Command<'a>>
     ensures { option_map wish result ≡ lone_asked verb.now }
 {
-    if verb == "help" {
-        Some(Command::Help)
-    } else {
-        None
+    match verb {
+        "help" => Some(Command::Help),
+        _ => None,
     }
 }
 
 fn on_file<'a>(verb: &str, file: &'a str) -> Option<Command<'a>>
     ensures { option_map wish result ≡ file_asked verb.now file.now }
 {
-    if verb == "check" {
-        return Some(Command::Check(file));
+    match verb {
+        "check" => Some(Command::Check(file)),
+        "list" => Some(Command::List(file)),
+        _ => None,
     }
-    if verb == "list" {
-        return Some(Command::List(file));
-    }
-    None
 }
 
 fn on_name<'a>(verb: &str, file: &'a str, name: &'a str) -> Option<Command<'a>>
     ensures { option_map wish result ≡ name_asked verb.now file.now name.now }
 {
-    if verb == "get" {
-        return Some(Command::Get(file, name));
+    match verb {
+        "get" => Some(Command::Get(file, name)),
+        "add" => Some(Command::Add(file, name)),
+        _ => None,
     }
-    if verb == "add" {
-        return Some(Command::Add(file, name));
-    }
-    None
 }

@@ -1,83 +1,64 @@
 // Each command on real files.
-ghost use Rattle.std.specs.Prelude.{◌≡◌, true, false, map, IfOk, None, string_bytes};
+ghost use Rattle.std.specs.Prelude.{◌≡◌, false, map, IfOk, IsErr, string_bytes};
 ghost use Rattle.volume_files.specs.Wishes.{asked};
 
 use crate::command::{Command, HELP, read_command};
-use crate::grow::{Unadded, grown};
-use crate::trouble::{Shown, Trouble, What};
+use crate::grow::grown;
+use crate::trouble::{Trouble, What};
+use shown::Shown;
 use std::fs::File;
 use std::io::{Read, Write};
 use std::path::Path;
 use std::{fs, io};
-use volume::{BundleRef, Found, Unlisted, check, find, list};
+use volume::{BundleRef, Found, check, find, list};
 
-// Does what the words ask for; whether it was done. A refusal is told on standard error.
+// Does what the words ask for; whether it was done. A refusal is told on standard error here,
+// so the bool is only the program's status.
 pub fn obey(rt: &HostRuntime, words: &[String]) -> io::Result<bool>
     ensures { IfOk result (λ done. asked (map string_bytes words.now) ≡ None → done ≡ false) }
 {
-    let Some(command) = read_command(words) else {
-        return refuse(
-            rt,
-            &Trouble {
-                file: "",
-                name: "",
-                what: What::Usage,
-            },
-        );
-    };
-    match run(rt, command) {
+    match follow(rt, words) {
         Ok(()) => Ok(true),
-        Err(trouble) => refuse(rt, &trouble),
+        Err(trouble) => {
+            eprintln!(rt; "volume: {trouble}")?;
+            Ok(false)
+        }
     }
 }
 
-fn refuse(rt: &HostRuntime, trouble: &Trouble<'_>) -> io::Result<bool>
-    ensures { IfOk result (λ done. done ≡ false) }
+fn follow<'a>(rt: &HostRuntime, words: &'a [String]) -> Result<(), Trouble<'a>>
+    ensures { asked (map string_bytes words.now) ≡ None → IsErr result }
 {
-    eprintln!(rt; "volume: {trouble}")?;
-    Ok(false)
+    let command = read_command(words).ok_or(Trouble {
+        file: "",
+        name: "",
+        what: What::Usage,
+    })?;
+    let (file, name) = command.subject();
+    run(rt, command).map_err(|what| Trouble { file, name, what })
 }
 
 // Does what a command asks for, and prints its account.
-fn run<'a>(rt: &HostRuntime, command: Command<'a>) -> Result<(), Trouble<'a>> {
+fn run(rt: &HostRuntime, command: Command<'_>) -> Result<(), What> {
     match command {
-        Command::Check(file) => named(file, "", check_file(rt, file)),
-        Command::List(file) => named(file, "", list_file(rt, file)),
-        Command::Get(file, name) => named(file, name, get(rt, file, name)),
-        Command::Add(file, name) => named(file, name, add(rt, file, name)),
-        Command::Help => named("", "", said(println!(rt; "{HELP}"))),
-    }
-}
-
-fn named<'a>(file: &'a str, name: &'a str, r: Result<(), What>) -> Result<(), Trouble<'a>> {
-    match r {
-        Ok(()) => Ok(()),
-        Err(what) => Err(Trouble { file, name, what }),
-    }
-}
-
-fn said(r: io::Result<()>) -> Result<(), What> {
-    match r {
-        Ok(()) => Ok(()),
-        Err(e) => Err(What::Output(e)),
+        Command::Check(file) => check_file(rt, file),
+        Command::List(file) => list_file(rt, file),
+        Command::Get(file, name) => get(rt, file, name),
+        Command::Add(file, name) => add(rt, file, name),
+        Command::Help => println!(rt; "{HELP}").map_err(What::Output),
     }
 }
 
 fn read_file(rt: &HostRuntime, file: &str) -> Result<Vec<u8>, What> {
-    match fs::read(rt, file) {
-        Ok(bytes) => Ok(bytes),
-        Err(e) => Err(What::Unreadable(e)),
-    }
+    fs::read(rt, file).map_err(What::Unreadable)
 }
 
 fn check_file(rt: &HostRuntime, file: &str) -> Result<(), What> {
     let bytes = read_file(rt, file)?;
-    let shown = Shown(file.as_bytes());
+    let count = check(bytes.as_slice())?;
+    let shown = Shown::<true>(file.as_bytes());
     let len = bytes.len();
-    match check(bytes.as_slice()) {
-        Ok(count) => said(println!(rt; "{shown} is a volume; bundles: {count}; bytes: {len}")),
-        Err(damage) => Err(What::NoVolume(damage)),
-    }
+    println!(rt; "{shown} is a volume; bundles: {count}; bytes: {len}").map_err(What::Output)
 }
 
 fn list_file(rt: &HostRuntime, file: &str) -> Result<(), What> {
@@ -87,30 +68,20 @@ fn list_file(rt: &HostRuntime, file: &str) -> Result<(), What> {
 
 // The bundles of a volume, newest first.
 fn print_bundles(rt: &HostRuntime, bytes: &[u8]) -> Result<(), What> {
-    match list(rt.alloc(), bytes) {
-        Ok(all) => print_found(rt, all.as_slice()),
-        Err(Unlisted::Damaged(damage)) => Err(What::NoVolume(damage)),
-        Err(Unlisted::Memory) => Err(What::Memory),
-    }
-}
-
-fn print_found(rt: &HostRuntime, all: &[Found<'_>]) -> Result<(), What> {
-    for found in all {
-        let name = Shown(found.bundle.name);
-        let len = found.bundle.entity.len();
-        let at = found.at;
-        said(println!(rt; "{name}\t{len} bytes\toffset {at}"))?;
+    for Found { at, bundle } in list(rt.alloc(), bytes)? {
+        let name = Shown::<true>(bundle.name);
+        let len = bundle.entity.len();
+        println!(rt; "{name}\t{len} bytes\toffset {at}").map_err(What::Output)?;
     }
     Ok(())
 }
 
 fn get(rt: &HostRuntime, file: &str, name: &str) -> Result<(), What> {
     let bytes = read_file(rt, file)?;
-    match find(bytes.as_slice(), name.as_bytes()) {
-        Ok(Some(found)) => said(rt.stdout().write_all(found.bundle.entity)),
-        Ok(None) => Err(What::Absent),
-        Err(damage) => Err(What::NoVolume(damage)),
-    }
+    let found = find(bytes.as_slice(), name.as_bytes())?.ok_or(What::Absent)?;
+    rt.stdout()
+        .write_all(found.bundle.entity)
+        .map_err(What::Output)
 }
 
 fn add(rt: &HostRuntime, file: &str, name: &str) -> Result<(), What> {
@@ -120,54 +91,33 @@ fn add(rt: &HostRuntime, file: &str, name: &str) -> Result<(), What> {
         name: name.as_bytes(),
         entity: entity.as_slice(),
     };
-    let new = match grown(rt.alloc(), old.as_slice(), bundle) {
-        Ok(new) => new,
-        Err(Unadded::Damaged(damage)) => return Err(What::NoVolume(damage)),
-        Err(Unadded::Refused(refusal)) => return Err(What::Refused(refusal)),
-        Err(Unadded::Memory) => return Err(What::Memory),
-    };
+    let new = grown(rt.alloc(), old.as_slice(), bundle)?;
     replace(rt, file, new.as_slice())?;
     account(rt, file, name, old.len())
 }
 
 fn read_input(rt: &HostRuntime) -> Result<Vec<u8>, What> {
     let mut bytes = Vec::new(rt.alloc());
-    match rt.stdin().read_to_end(&mut bytes) {
-        Ok(_) => Ok(bytes),
-        Err(e) => Err(What::Input(e)),
-    }
+    rt.stdin().read_to_end(&mut bytes).map_err(What::Input)?;
+    Ok(bytes)
 }
 
 // A file's bytes; a file that is not there is an empty volume.
 fn read_or_none(rt: &HostRuntime, file: &str) -> Result<Vec<u8>, What> {
     match fs::read(rt, file) {
-        Ok(bytes) => Ok(bytes),
-        Err(e) => {
-            if e.kind() == io::ErrorKind::NotFound {
-                Ok(Vec::new(rt.alloc()))
-            } else {
-                Err(What::Unreadable(e))
-            }
-        }
+        Err(e) if e.kind() == io::ErrorKind::NotFound => Ok(Vec::new(rt.alloc())),
+        read => read.map_err(What::Unreadable),
     }
 }
 
 // Puts the bytes in a file's place: written beside it, synced, read back, and only then renamed over it.
 fn replace(rt: &HostRuntime, file: &str, bytes: &[u8]) -> Result<(), What> {
-    let Ok(beside) = format!(in rt.alloc(); "{file}.adding") else {
-        return Err(What::Memory);
-    };
-    let fresh = match File::create_new(rt, beside.as_str()) {
-        Ok(fresh) => fresh,
-        Err(e) => return Err(not_made(e)),
-    };
-    match settle(rt, fresh, beside.as_str(), file, bytes) {
-        Ok(()) => sync_folder(rt, file),
-        Err(what) => {
-            let _ = fs::remove_file(rt, beside.as_str());
-            Err(what)
-        }
-    }
+    let beside = format!(in rt.alloc(); "{file}.adding")?;
+    let fresh = File::create_new(rt, beside.as_str()).map_err(not_made)?;
+    settle(rt, fresh, beside.as_str(), file, bytes).inspect_err(|_| {
+        let _ = fs::remove_file(rt, beside.as_str());
+    })?;
+    sync_folder(rt, file)
 }
 
 fn not_made(e: io::Error) -> What {
@@ -185,17 +135,12 @@ fn settle(
     file: &str,
     bytes: &[u8],
 ) -> Result<(), What> {
-    if let Err(e) = write_synced(fresh, bytes) {
-        return Err(What::Unwritten(e));
-    }
+    write_synced(fresh, bytes).map_err(What::Unwritten)?;
     let back = read_file(rt, beside)?;
     if back.as_slice() != bytes {
         return Err(What::Differs);
     }
-    match fs::rename(rt, beside, file) {
-        Ok(()) => Ok(()),
-        Err(e) => Err(What::Unplaced(e)),
-    }
+    fs::rename(rt, beside, file).map_err(What::Unplaced)
 }
 
 fn write_synced(mut fresh: File, bytes: &[u8]) -> io::Result<()> {
@@ -205,32 +150,25 @@ fn write_synced(mut fresh: File, bytes: &[u8]) -> io::Result<()> {
 
 // Makes the rename last.
 fn sync_folder(rt: &HostRuntime, file: &str) -> Result<(), What> {
-    match synced_folder(rt, file) {
-        Ok(()) => Ok(()),
-        Err(e) => Err(What::Unsettled(e)),
-    }
-}
-
-fn synced_folder(rt: &HostRuntime, file: &str) -> io::Result<()> {
-    let folder = match Path::new(file).parent() {
-        Some(parent) => parent.as_str(),
-        None => "",
-    };
-    let folder = if folder.is_empty() { "." } else { folder };
-    File::open(rt, folder)?.sync_all()
+    let folder = Path::new(file)
+        .parent()
+        .map(|parent| parent.as_str())
+        .filter(|folder| !folder.is_empty())
+        .unwrap_or(".");
+    File::open(rt, folder)
+        .and_then(|folder| folder.sync_all())
+        .map_err(What::Unsettled)
 }
 
 // What stands in the file now, read back from its end.
 fn account(rt: &HostRuntime, file: &str, name: &str, at: usize) -> Result<(), What> {
     let bytes = read_file(rt, file)?;
-    let shown = Shown(file.as_bytes());
-    let name = Shown(name.as_bytes());
+    let count = check(bytes.as_slice())?;
+    let shown = Shown::<true>(file.as_bytes());
+    let name = Shown::<true>(name.as_bytes());
     let len = bytes.len();
-    match check(bytes.as_slice()) {
-        Ok(count) => said(println!(rt;
-            "added {name} at offset {at}; {shown} now has bundles: {count}; bytes: {len}; newest first:"
-        ))?,
-        Err(damage) => return Err(What::NoVolume(damage)),
-    }
+    println!(rt;
+        "added {name} at offset {at}; {shown} now has bundles: {count}; bytes: {len}; newest first:"
+    ).map_err(What::Output)?;
     print_bundles(rt, bytes.as_slice())
 }

@@ -9,4 +9,4 @@ mod trouble;
 pub use command::{Command, read_command};
 pub use files::obey;
 pub use grow::{Unadded, grown};
-pub use trouble::{Shown, Trouble, What};
+pub use trouble::{Trouble, What};

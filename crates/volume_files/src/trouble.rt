@@ -1,24 +1,13 @@
 // What the tool says where it refuses: what was wrong, where, and what to do.
+ghost use Rattle.std.specs.Prelude.{◌≡◌};
+ghost use Rattle.volume_files.specs.Troubles.{unadded_as, unlisted_as};
+ghost use Rattle.volume_files.specs.declared.trouble.What.TheVariants.{Memory, NoVolume};
+
+use crate::grow::Unadded;
+use shown::Shown;
+use std::alloc::AllocError;
 use std::{fmt, io};
-use volume::{Damage, Fault, Refusal};
-
-// Bytes as a terminal may show them: a control byte, a byte over 0x7E or a backslash as \xNN.
-#[derive(Clone, Copy)]
-pub struct Shown<'a>(pub &'a [u8]);
-
-impl fmt::Display for Shown<'_> {
-    fn fmt<W: fmt::Write>(&self, f: &mut fmt::Formatter<W>) -> fmt::Result {
-        for b in self.0 {
-            let b = *b;
-            if b >= 0x20 && b < 0x7F && b != b'\\' {
-                f.write_char(b as char)?;
-            } else {
-                write!(f, "\\x{b:02x}")?;
-            }
-        }
-        Ok(())
-    }
-}
+use volume::{Damage, Refusal, Unlisted};
 
 #[derive(Drop)]
 pub enum What {
@@ -37,6 +26,79 @@ pub enum What {
     Memory,
 }
 
+impl From<Damage> for What {
+    ghost from_gives = { λ damage what. what ≡ NoVolume damage };
+
+    fn from(damage: Damage) -> What {
+        What::NoVolume(damage)
+    }
+}
+
+impl From<AllocError> for What {
+    ghost from_gives = { λ _ what. what ≡ Memory };
+
+    fn from(_error: AllocError) -> What {
+        What::Memory
+    }
+}
+
+impl From<Unlisted> for What {
+    ghost from_gives = { λ why what. what ≡ unlisted_as why };
+
+    fn from(why: Unlisted) -> What {
+        match why {
+            Unlisted::Damaged(damage) => What::NoVolume(damage),
+            Unlisted::Memory => What::Memory,
+        }
+    }
+}
+
+impl From<Unadded> for What {
+    ghost from_gives = { λ why what. what ≡ unadded_as why };
+
+    fn from(why: Unadded) -> What {
+        match why {
+            Unadded::Damaged(damage) => What::NoVolume(damage),
+            Unadded::Refused(refusal) => What::Refused(refusal),
+            Unadded::Memory => What::Memory,
+        }
+    }
+}
+
+impl What {
+    // What to do about it.
+    fn advice(&self) -> Option<&'static str> {
+        match self {
+            What::Usage => Some("`volume help` lists them"),
+            What::Unreadable(_) => Some("see that the path is right"),
+            What::Input(_) | What::Output(_) => Some("run the command again"),
+            What::NoVolume(_) => Some(
+                "bundles behind that offset can be read; restore the file from another copy",
+            ),
+            What::Absent => Some("`volume list` shows its names"),
+            What::Busy => Some("if none runs, remove it and add again"),
+            What::Unwritten(_) => Some("make room and add again"),
+            What::Differs => Some("look at the disk"),
+            What::Unsettled(_) => Some("run sync before switching off"),
+            What::Memory => Some("use a machine with more"),
+            What::Refused(_) | What::Unplaced(_) => None,
+        }
+    }
+
+    // Whether an add may have stopped on it, so that it is told that the file stands.
+    fn leaves_the_file(&self) -> bool {
+        matches!(
+            self,
+            What::Refused(_)
+                | What::Busy
+                | What::Unwritten(_)
+                | What::Differs
+                | What::Unplaced(_)
+                | What::Memory
+        )
+    }
+}
+
 // A refusal, and the file and name that it is about.
 #[derive(Drop)]
 pub struct Trouble<'a> {
@@ -45,93 +107,43 @@ pub struct Trouble<'a> {
     pub what: What,
 }
 
-fn fault_words(fault: Fault) -> &'static str {
-    match fault {
-        Fault::NoTrailer => "fewer than the 16 bytes of a trailer are left",
-        Fault::NoMark => "the trailer does not end in HALL",
-        Fault::NoZeros => "the two bytes before HALL are not zero",
-        Fault::NameLength => "the trailer gives a name of 0 or more than 128 bytes",
-        Fault::NoEntity => "the trailer's distance leaves no byte for the entity",
-        Fault::TooFar => "the trailer's distance reaches before the first byte",
-    }
-}
-
-fn refusal_words(refusal: Refusal) -> &'static str {
-    match refusal {
-        Refusal::EmptyEntity => "the entity on standard input is empty: send at least one byte",
-        Refusal::EmptyName => "the name is empty: give 1 to 128 bytes",
-        Refusal::LongName => "the name has more than 128 bytes: give 1 to 128",
-        Refusal::Outside => "the entity does not lie before the volume",
-        Refusal::NoRoom => "the bundle does not fit: give it another volume",
+impl Trouble<'_> {
+    fn write_problem<W: fmt::Write>(&self, f: &mut fmt::Formatter<W>) -> fmt::Result {
+        let file = Shown::<true>(self.file.as_bytes());
+        let name = Shown::<true>(self.name.as_bytes());
+        match &self.what {
+            What::Usage => write!(f, "no such command"),
+            What::Unreadable(e) => write!(f, "{file} cannot be read: {e}"),
+            What::Input(e) => write!(f, "standard input cannot be read: {e}"),
+            What::Output(e) => write!(f, "standard output cannot be written: {e}"),
+            What::NoVolume(damage) => write!(f, "{file} is no volume: {damage}"),
+            What::Absent => write!(f, "{file} has no bundle named {name}"),
+            What::Refused(refusal) => write!(f, "{refusal}"),
+            What::Busy => write!(
+                f,
+                "{file}.adding stands already: another add is running or was broken off"
+            ),
+            What::Unwritten(e) => write!(f, "{file}.adding cannot be written: {e}"),
+            What::Differs => write!(f, "{file}.adding does not read back as it was written"),
+            What::Unplaced(e) => write!(f, "{file}.adding cannot be renamed over {file}: {e}"),
+            What::Unsettled(e) => write!(
+                f,
+                "the bundle stands in {file}, but the folder could not be synced: {e}"
+            ),
+            What::Memory => write!(f, "there is not enough memory"),
+        }
     }
 }
 
 impl fmt::Display for Trouble<'_> {
     fn fmt<W: fmt::Write>(&self, f: &mut fmt::Formatter<W>) -> fmt::Result {
-        let file = Shown(self.file.as_bytes());
-        let name = Shown(self.name.as_bytes());
-        match &self.what {
-            What::Usage => write!(f, "no such command; `volume help` lists them"),
-            What::Unreadable(e) => write!(
-                f,
-                "{file} cannot be read: {e}; see that the path is right"
-            ),
-            What::Input(e) => write!(
-                f,
-                "standard input cannot be read: {e}; run the command again"
-            ),
-            What::Output(e) => write!(
-                f,
-                "standard output cannot be written: {e}; run the command again"
-            ),
-            What::NoVolume(d) => no_volume(f, file, *d),
-            What::Absent => write!(
-                f,
-                "{file} has no bundle named {name}; `volume list` shows its names"
-            ),
-            What::Refused(r) => unchanged(f, file, refusal_words(*r)),
-            What::Busy => write!(
-                f,
-                "{file}.adding stands already: another add is running or was broken off; if none runs, remove it and add again; {file} is as it was"
-            ),
-            What::Unwritten(e) => write!(
-                f,
-                "{file}.adding cannot be written: {e}; make room and add again; {file} is as it was"
-            ),
-            What::Differs => write!(
-                f,
-                "{file}.adding does not read back as it was written; look at the disk; {file} is as it was"
-            ),
-            What::Unplaced(e) => write!(
-                f,
-                "{file}.adding cannot be renamed over {file}: {e}; {file} is as it was"
-            ),
-            What::Unsettled(e) => write!(
-                f,
-                "the bundle stands in {file}, but the folder could not be synced: {e}; run sync before switching off"
-            ),
-            What::Memory => unchanged(
-                f,
-                file,
-                "there is not enough memory; use a machine with more",
-            ),
+        self.write_problem(f)?;
+        if let Some(advice) = self.what.advice() {
+            write!(f, "; {advice}")?;
         }
+        if self.what.leaves_the_file() {
+            write!(f, "; {} is as it was", Shown::<true>(self.file.as_bytes()))?;
+        }
+        Ok(())
     }
-}
-
-fn no_volume<W: fmt::Write>(f: &mut fmt::Formatter<W>, file: Shown<'_>, d: Damage) -> fmt::Result {
-    let words = fault_words(d.fault);
-    let end = d.end;
-    write!(
-        f,
-        "{file} is no volume: no bundle ends at offset {end}: {words}; bundles behind that offset can be read; restore the file from another copy"
-    )
-}
-
-fn unchanged<W: fmt::Write>(
-    f: &mut fmt::Formatter<W>,
-    file: Shown<'_>,
-    words: &str,
-) -> fmt::Result {
-    write!(f, "{words}; {file} is as it was")
 }

@@ -1,14 +1,12 @@
 -- What a volume store's changes do to its meaning.
-use Rattle.std.specs.Prelude.{◌≡◌, ℕ, zero, suc, ◌+◌, ◌-◌, ◌*◌, ◌^◌, ◌<◌, ◌≤◌, Bool, true, false, cond, ◌&&◌, ltb, leb, List, [], ◌∷◌, ◌++◌, length, take, drop, set, replicate, is_err, Some, None, Ok, Err, vec_items, vec_len, Option, Result, ◌==◌, ◌≢◌, nat_le, nat_lt, slice_index, slice_index_or, slice_set, refl}
+use Rattle.std.specs.Prelude.{◌≡◌, ℕ, ◌+◌, ◌-◌, ◌*◌, ◌^◌, ◌<◌, ◌≤◌, Bool, true, false, cond, ◌&&◌, ltb, leb, List, [], ◌∷◌, ◌++◌, length, take, drop, set, Some, None, vec_items, vec_len, Option, ◌==◌, ◌≢◌, nat_le, nat_lt, slice_index, slice_set, refl}
 use Rattle.std.proofs.Common.{sym, ap, subst, ◌∙◌, ⊎_elim, arith, add-zero, get_or-set_same, get_or-set_other}
 use Rattle.std.specs.Str.{bytes_eq}
 use Rattle.std.proofs.lemmas.Slice.Eq.{bytes_eq-Decides}
-use Rattle.std.proofs.lemmas.Bool.{cond-true, cond-false, lt-ltb, le-ltb, ltb-true, le-leb, leb-true, ne_eqb, and_left, and_right, and_parts, cases_lt, cases_eq, cases_Bool, false≢true}
+use Rattle.std.proofs.lemmas.Bool.{cond-true, cond-false, lt-ltb, le-ltb, ltb-true, le-leb, leb-true, ne_eqb, and_left, and_right, and_parts, cases_lt, cases_eq, cases_Bool}
 use Rattle.std.proofs.lemmas.List.{append-nil, take-append-drop, length-take-le, length-drop, set-get_or}
 use Rattle.store.specs.Meaning.{Added, Cleared, Published, nameable}
 use Rattle.volume.specs.Bundles.{Bundle, Volume, newest, later, bytes_of}
-use Rattle.volume.specs.Reads.{Counted, Damaged}
-use Rattle.volume.specs.declared.bundle.Damage.{Damage}
 use Rattle.volume.specs.Writes.{Appended, refusal}
 use Rattle.volume.specs.declared.bundle.Refusal.{Refusal}
 use Rattle.volume.specs.declared.bundle.Refusal.TheVariants.{EmptyEntity, EmptyName, LongName, Outside, NoRoom}
@@ -293,23 +291,3 @@ within-set s k v h le j =
     (λ e. subst (λ (x : ℕ). length_of (slice_set s.lengths k v) x ≤ s.capacity) (sym e) (omega (arith, get_or-set_same s.lengths k v 0 (omega (arith, s.held)))))
     (λ ne. omega (arith, get_or-set_other s.lengths k j v 0 ne, s.within j))
     (cases_eq j k)
-
-pub some-none : (x : Refusal) → ◌≡◌ {A = Option Refusal} (Some x) None → ⊥
-some-none x e = let z : ◌≡◌ {A = ℕ} 0 1 = cc in omega arith
-
-get_or-zeros : (n k : ℕ) → slice_index_or {A = ℕ} (replicate n 0) k 0 ≡ 0
-get_or-zeros zero k = refl
-get_or-zeros (suc n) zero = refl
-get_or-zeros (suc n) (suc k) = get_or-zeros n k
-
-pub within_new : (c : ℕ) → Within c (replicate 16 0)
-within_new c k = omega (arith, get_or-zeros 16 k)
-
--- what a check that found no fault says
-abbrev pub Checked : List ℕ → Result ℕ Damage → Type 0
-Checked l (Ok n) = Counted l n
-Checked l (Err d) = Damaged l d
-
-pub counted-holds : (l : List ℕ) (r : Result ℕ Damage) → false ≡ is_err r → Checked l r → Holds l
-counted-holds l (Ok n) e p = (p.bundles, p.volume)
-counted-holds l (Err d) e p = absurd (false≢true e)

@@ -10,6 +10,10 @@ module _ (l xs : List ℕ) (at : ℕ) (fit : at + length xs ≤ length l) where
   front : length (take at l) ≡ at
   front = length-take-le at l (omega arith)
 
+  pub length-wrote : length wrote ≡ length l
+  length-wrote =
+      omega (arith, length-append (take at l) (xs ++ drop (at + length xs) l), length-append xs (drop (at + length xs) l), length-drop (at + length xs) l, front)
+
   pub before-it : (a m : ℕ) → a + m ≤ at → take m (drop a wrote) ≡ take m (drop a l)
   before-it a m h =
       sym (drop-take a m wrote)

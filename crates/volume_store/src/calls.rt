@@ -1,37 +1,14 @@
 // What a volume store does.
-ghost use Rattle.std.specs.Prelude.{◌≡◌, ℕ, ◌+◌, ◌*◌, ◌<◌, ◌≤◌, true, ◌&&◌, List, ◌++◌, length, take, drop, Ok, Err, vec_len, nat_le, nat_lt};
+ghost use Rattle.std.specs.Prelude.{◌≡◌, ◌+◌, ◌*◌, ◌<◌, ◌≤◌, ◌&&◌, List, ◌++◌, length, take, drop, Ok, Err, vec_len, nat_le};
 ghost use Rattle.store.specs.Answers.{portion};
-ghost use Rattle.store.specs.Meaning.{nameable};
 ghost use Rattle.volume.specs.Bundles.{Bundle, Volume, newest};
 ghost use Rattle.volume_store.specs.State.{length_of};
-ghost use Rattle.volume_store.specs.Store.{meaning_of, Accounted, Can, Adding, Clearing, Publishing, Opened, Fitting, fits_under, entity_of, viewed, bundles, volume_of};
+ghost use Rattle.volume_store.specs.Store.{meaning_of, Accounted, Can, Adding, Clearing, Publishing, Opened, Fitting, entity_of, viewed, volume_of};
 ghost use Rattle.volume_store.specs.Stores.{law-fits, held_out, room_out, law-unfilled, law-unnamed};
 
 use crate::state::VolumeStore;
-use outcome::Outcome;
-use store::{Refusal, Store};
-use volume::{Span, append_within, check, find};
-
-// slots of the staging area
-const SLOTS: usize = 16;
-
-// bytes that close a bundle
-const TRAILER: usize = 16;
-
-// A region that the slots and the volume do not fit, or whose used bytes are no volume.
-#[derive(Drop)]
-pub struct BadRegion {
-    pub region: Vec<u8>,
-}
-
-impl BadRegion {
-    // What making such a store comes to: a broken setting.
-    pub fn outcome(&self) -> Outcome
-        ensures { result ≡ Outcome.BadSetting }
-    {
-        Outcome::BadSetting
-    }
-}
+use store::{BadRegion, Refusal, SLOTS, Store, is_name};
+use volume::{Span, TRAILER, append_within, check, find};
 
 // Whether 16 slots and the used bytes fit a region of that length.
 fn fits(len: usize, capacity: usize, used: usize) -> bool
@@ -40,30 +17,14 @@ fn fits(len: usize, capacity: usize, used: usize) -> bool
     1 <= capacity && capacity <= len / SLOTS && used <= len - SLOTS * capacity
 }
 
-// Puts bytes at a place of a region.
-fn put(region: &mut [u8], at: usize, bytes: &[u8])
-    requires { at + length bytes.now ≤ length region.old }
-    ensures { region.new ≡ take at region.old ++ (bytes.now ++ drop (at + length bytes.now) region.old) }
-{
-    let end = at + bytes.len();
-    region[at..end].copy_from_slice(bytes);
-}
-
-fn is_name(name: &[u8]) -> bool
-    ensures { result ≡ nameable name.now }
-{
-    1 <= name.len() && name.len() <= 128
-}
-
 // The entity that stands under a name in a volume.
 fn entity_in<'a>(bytes: &'a [u8], name: &[u8]) -> Option<&'a [u8]>
     ensures { (bs : List Bundle) → Volume bytes.now bs → viewed result ≡ entity_of (newest name.now bs) }
 {
-    match find(bytes, name) {
-        Ok(Some(found)) => Some(found.bundle.entity),
-        Ok(None) => None,
-        Err(_) => None,
-    }
+    find(bytes, name)
+        .ok()
+        .flatten()
+        .map(|found| found.bundle.entity)
 }
 
 // Fills the front of a page with bytes from an offset on; how many.
@@ -71,10 +32,9 @@ fn fill(page: &mut [u8], bytes: &[u8], offset: usize) -> usize
     ensures count { result ≡ portion bytes.now offset (length page.old) }
     ensures page { page.new ≡ take result (drop offset bytes.now) ++ drop result page.old }
 {
-    let n = bytes.len().saturating_sub(offset).min(page.len());
-    if n > 0 {
-        page[0..n].copy_from_slice(&bytes[offset..offset + n]);
-    }
+    let rest = bytes.get(offset..).unwrap_or(&[]);
+    let n = rest.len().min(page.len());
+    page[..n].copy_from_slice(&rest[..n]);
     n
 }
 
@@ -93,7 +53,7 @@ impl VolumeStore {
         Ok(VolumeStore {
             region,
             capacity,
-            lengths: [0; 16],
+            lengths: [0; SLOTS],
             used,
         })
     }
@@ -113,7 +73,8 @@ impl VolumeStore {
         ensures { Adding self.old slot bytes.now self.new }
     {
         let len = self.lengths[slot];
-        put(&mut self.region, slot * self.capacity + len, bytes);
+        let at = slot * self.capacity + len;
+        self.region[at..at + bytes.len()].copy_from_slice(bytes);
         self.lengths[slot] = len + bytes.len();
     }
 
@@ -122,12 +83,6 @@ impl VolumeStore {
         ensures { Clearing self.old slot self.new }
     {
         self.lengths[slot] = 0;
-    }
-
-    fn holds_bytes(&self, slot: usize) -> bool
-        ensures { result ≡ (nat_lt slot 16 && nat_lt 0 (length_of self.now.lengths slot)) }
-    {
-        slot < SLOTS && self.lengths[slot] > 0
     }
 
     // Whether a bundle of these lengths goes behind the volume.
@@ -152,13 +107,11 @@ impl VolumeStore {
             start: slot * self.capacity,
             len: self.lengths[slot],
         };
-        match append_within(&mut self.region, volume, entity, name) {
-            Ok(end) => {
-                self.used = end;
-                self.lengths[slot] = 0;
-            }
-            Err(_) => unreachable(),
-        }
+        let Ok(end) = append_within(&mut self.region, volume, entity, name) else {
+            unreachable!()
+        };
+        self.used = end;
+        self.lengths[slot] = 0;
     }
 }
 
@@ -188,27 +141,21 @@ impl Store for VolumeStore {
     }
 
     fn published_length(&self, name: &[u8]) -> Option<usize> {
-        match entity_in(self.volume(), name) {
-            Some(entity) => Some(entity.len()),
-            None => None,
-        }
+        entity_in(self.volume(), name).map(|entity| entity.len())
     }
 
     fn can_publish(&self, slot: usize, name: &[u8]) -> bool {
-        if !is_name(name) {
-            return false;
-        }
-        if !self.holds_bytes(slot) {
-            return false;
-        }
-        self.takes(self.lengths[slot], name.len())
+        is_name(name)
+            && slot < SLOTS
+            && self.lengths[slot] > 0
+            && self.takes(self.lengths[slot], name.len())
     }
 
     fn add(&mut self, slot: usize, bytes: &[u8]) -> Result<(), Refusal> {
         if bytes.len() > self.room(slot) {
             return Err(Refusal::NoRoom);
         }
-        if bytes.len() > 0 {
+        if !bytes.is_empty() {
             self.stage(slot, bytes);
         }
         Ok(())
@@ -229,9 +176,7 @@ impl Store for VolumeStore {
     }
 
     fn copy(&self, name: &[u8], offset: usize, page: &mut [u8]) -> Result<usize, Refusal> {
-        let Some(entity) = entity_in(self.volume(), name) else {
-            return Err(Refusal::Absent);
-        };
+        let entity = entity_in(self.volume(), name).ok_or(Refusal::Absent)?;
         Ok(fill(page, entity, offset))
     }
 }

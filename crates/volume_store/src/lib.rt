@@ -4,5 +4,5 @@
 mod calls;
 mod state;
 
-pub use calls::BadRegion;
 pub use state::VolumeStore;
+pub use store::BadRegion;

@@ -7,13 +7,11 @@ use volume_files::obey;
 
 fn words(rt: &HostRuntime, verb: &str, file: &str, name: &str) -> Result<Vec<String>, AllocError> {
     let heap = rt.alloc();
-    let mut all = Vec::new(heap);
-    for word in [verb, file, name] {
-        if !word.is_empty() {
-            all.push(String::from_str(heap, word)?)?;
-        }
-    }
-    Ok(all)
+    [verb, file, name]
+        .iter()
+        .filter(|word| !word.is_empty())
+        .map(|word| String::from_str(heap, word))
+        .try_collect(heap)
 }
 
 fn done(rt: &HostRuntime, verb: &str, file: &str, name: &str) -> Result<bool, Fail> {

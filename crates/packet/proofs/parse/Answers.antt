@@ -1,6 +1,7 @@
-use Rattle.std.proofs.Common.{take, Ok, Err, ap, ◌∙◌}
+use Rattle.std.proofs.Common.{◌-◌, leb-true, length, length-take, take, drop, Ok, Err, refl, ap, ◌∙◌, arith}
 use Rattle.std.proofs.lemmas.List.{take_rest}
 use Rattle.std.proofs.lemmas.Result.{err_from_is_err_and}
+use Rattle.std.proofs.lemmas.Bool.{and_parts}
 use Rattle.head.specs.Heads.{reading}
 use Rattle.packet.specs.Judging.{judged_of}
 use Rattle.packet.specs.Packets.{request_from, with_head, packet_of, seen}
@@ -30,3 +31,12 @@ returns c =
     ap (λ b. Ok (record { path = h.path; action = j.action; head_size = h.size; content_length = j.length; body = b })) (c.body_of.ensures ∙ ap (take j.length) (take_rest input h.size))
     ∙ ok-plain j c.judge.result (judged_of h.table) (λ k. Ok (request_from input h k)) c.in_ok-judged.was c.judge.ensures
     ∙ ap (with_head input) c.in_ok-head.ensures.value
+
+pub invariant_of-result-clause-present : goal.invariant_of-result-clause-present
+invariant_of-result-clause-present c =
+    omega (arith, ap length c.body_of.ensures, length-take c.in_ok-judged.judged.length (take (length c.args.input.now - c.in_ok-head.head.size) (drop c.in_ok-head.head.size c.args.input.now)))
+
+pub invariant_of-result-clause-short : goal.invariant_of-result-clause-short
+invariant_of-result-clause-short c =
+    let good = (c.in_ok-head.ensures.exact.sound (reading c.in_ok-head.head) refl).parts.good in
+    leb-true _ 128 (and_parts _ _ (and_parts _ _ good).1).0

@@ -1,7 +1,8 @@
-use Rattle.std.proofs.Common.{eqb, length, ap, ◌∙◌}
+use Rattle.std.proofs.Common.{rules, tests}
+use Rattle.std.proofs.lemmas.Iterator.{YieldsList-from_slice}
+use Rattle.std.proofs.lemmas.Iterator.Search.{all_from_yields_List}
 use Rattle.text.specs.Bytes.{passes_as}
-use Rattle.text.proofs.Runs.{every-is}
 use Rattle.text.proofs.all.Goals as goal
 
 pub returns : goal.returns
-returns c = ap (λ n. eqb n (length c.args.s.now)) c.lead.ensures.value ∙ every-is (passes_as c.args.kind) c.args.s.now
+returns c = all_from_yields_List (passes_as c.args.kind) _ _ c.all.result c.all.ensures.ran (YieldsList-from_slice c.args.s.now cc) (λ x b q k. search (rules, tests))

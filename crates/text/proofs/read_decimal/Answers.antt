@@ -2,7 +2,7 @@ use Rattle.std.proofs.Common.{◌≡◌, ℕ, ◌-◌, ◌^◌, ◌<◌, ◌≤�
 use Rattle.std.proofs.lemmas.Int.Digits.{digits_more, digits_value_more}
 use Rattle.std.proofs.lemmas.List.{take_all}
 use Rattle.std.proofs.lemmas.Str.Parse.{IsNumeralModel, tells_digits, tells_all_ascii_digits, numerals_by_value, digits_value_short, digit_at}
-use Rattle.std.proofs.lemmas.Bool.{eqb-true, eqb-false, both_ways, and_parts, and_from, leb-true, le-leb, cond-true, cond-false}
+use Rattle.std.proofs.lemmas.Bool.{eqb-true, eqb-false, and_parts, and_from, leb-true, le-leb, cond-true, cond-false}
 use Rattle.std.proofs.lemmas.Bool.Decides.{nat_tests}
 use Rattle.std.specs.Str.Parse.{AllDigits, digits_value}
 use Rattle.std.specs.Char.{digit_value}
@@ -45,29 +45,26 @@ returns-then-is_empty c = no_number c.args.s.now (λ t.
       | inr e ↦ omega (arith, e.1)
     ])
 
-pub returns-then-not-is_ascii_digit : goal.returns-then-not-is_ascii_digit
-returns-then-not-is_ascii_digit c = no_number c.args.s.now (λ t.
+pub returns-in_err-to_digit : goal.returns-in_err-to_digit
+returns-in_err-to_digit c = c.from_residual.ensures ∙ no_number c.args.s.now (λ t.
     let b = get_or c.args.s.now c.loop-b.b-index 0 in
     let d = digit_at c.args.s.now c.loop-b.b-index (own.to _ (parts c.args.s.now t).2) c.loop-b-test.true in
-    both_ways _ (sym c.if-not-is_ascii_digit.ensures.value) (and_from (leb 48 b) (leb b 57) (le-leb 48 b d.0) (le-leb b 57 d.1)))
-
-small : (c : goal.Else-not-is_ascii_digit) → c.loop-b.n < 10 ^ 18
-small c = below c.args.s.now c.loop-b.b-index c.loop-b.n c.loop-b-test.true c.if-s-gt-MOST_DIGITS.false c.loop-b.invariant.0 c.loop-b.invariant.1
+    c.in_err-to_digit.ensures.value (omega (arith, d, digit-is b d.0 d.1, ap digit_value c.from.ensures)))
 
 pub overflow_mul-n : goal.overflow_mul-n
-overflow_mul-n c = omega (arith, small c)
+overflow_mul-n c = omega (arith, below c.args.s.now c.loop-b.b-index c.loop-b.n c.loop-b-test.true c.if-s-gt-MOST_DIGITS.false c.loop-b.invariant.0 c.loop-b.invariant.1)
 
 pub overflow_add-n : goal.overflow_add-n
-overflow_add-n c = omega (arith, below c.args.s.now c.loop-b.b-index c.loop-b.n c.loop-b-test.true c.if-s-gt-MOST_DIGITS.false c.loop-b.invariant.0 c.loop-b.invariant.1, c.if-not-is_ascii_digit.ensures.cases)
+overflow_add-n c = omega (arith, below c.args.s.now c.loop-b.b-index c.loop-b.n c.loop-b-test.true c.if-s-gt-MOST_DIGITS.false c.loop-b.invariant.0 c.loop-b.invariant.1, c.in_ok-to_digit.ensures.value, c.from-in-loop-b.ensures)
 
 pub loop-b-preserved : goal.loop-b-preserved
 loop-b-preserved c =
     let s = c.args.s.now in
     let i = c.loop-b.b-index in
-    let h = c.if-not-is_ascii_digit.ensures.cases in
-    let d = digit-is (get_or s i 0) h.0 h.1 in
+    let d = c.in_ok-to_digit.ensures.value in
+    let same = ap digit_value c.from.ensures in
     let v = digits_value_more 10 s i c.loop-b-test.true in
-    (digits_more 10 s i c.loop-b-test.true c.loop-b.invariant.0 (omega (arith, d, h)), omega (arith, d, v, c.loop-b.invariant.1))
+    (digits_more 10 s i c.loop-b-test.true c.loop-b.invariant.0 (omega (arith, d.0, same)), omega (arith, d.1, same, v, c.from-in-loop-b.ensures, c.loop-b.invariant.1))
 
 pub returns : goal.returns
 returns c =

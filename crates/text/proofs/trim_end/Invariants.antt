@@ -1,10 +1,9 @@
-use Rattle.std.proofs.Common.{◌≡◌, ◌+◌, ◌≤◌, length, take}
-use Rattle.std.specs.List.{suffix_len}
-use Rattle.text.specs.Bytes.{blank}
+use Rattle.std.proofs.Common.{◌≡◌, length}
+use Rattle.text.specs.Words.{trim_end}
 use Rattle.text.proofs.trim_end.Given as goal
 
-abbrev pub invariant-loop-n : goal.invariant-loop-n
-invariant-loop-n l = (l.n ≤ length l.s) × (l.n + suffix_len blank l.s ≡ length l.s + suffix_len blank (take l.n l.s))
+abbrev pub invariant-loop-s : goal.invariant-loop-s
+invariant-loop-s l = trim_end l.s ≡ trim_end l.fn.s
 
-abbrev pub decreases-loop-n : goal.decreases-loop-n
-decreases-loop-n l = l.n
+abbrev pub decreases-loop-s : goal.decreases-loop-s
+decreases-loop-s l = length l.s

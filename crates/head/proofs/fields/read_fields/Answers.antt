@@ -1,28 +1,17 @@
-use Rattle.std.proofs.Common.{◌≡◌, ℕ, ◌+◌, ◌-◌, ◌≤◌, List, length, take, drop, is_some, sym, refl, ap, ◌∙◌, arith, length-drop}
+use Rattle.std.proofs.Common.{◌≡◌, ℕ, ◌+◌, ◌-◌, ◌≤◌, List, length, take, drop, Err, sym, refl, ap, ◌∙◌, arith, length-drop}
 use Rattle.std.proofs.lemmas.List.{take_rest}
+use Rattle.std.proofs.lemmas.Result.{err_from_is_err_and}
 use Rattle.head.specs.Marks.{line_length}
 use Rattle.head.specs.Lines.{field_of, fields_of}
-use Rattle.head.specs.Heads.{gathered, table}
+use Rattle.head.specs.Heads.{gathered, table, tabled}
 use Rattle.head.specs.Loops.{with_line, lines_after, first_line, and_then, added}
 use Rattle.head.proofs.Scans.{line-le}
-use Rattle.head.proofs.Turns.{gather_none, gather-full, gather-turn}
+use Rattle.head.proofs.Turns.{gather-full, gather-turn}
 use Rattle.head.proofs.fields.read_fields.Goals as goal
 use Rattle.head.proofs.fields.read_fields.Goals.{After-add_line}
 
-pub loop-done-init : goal.loop-done-init
-loop-done-init c = (c.requires, refl)
-
-pub overflow_sub-body : goal.overflow_sub-body
-overflow_sub-body c = omega (arith, c.loop-done.invariant.0)
-
-pub overflow_sub-body-2 : goal.overflow_sub-body-2
-overflow_sub-body-2 c = omega (arith, c.loop-done.invariant.0)
-
-pub returns-then-body-end-lt2 : goal.returns-then-body-end-lt2
-returns-then-body-end-lt2 c = sym (gather_none c.args.body.now c.loop-done.end (64 - c.loop-done._done) (table c.loop-done.fields) c.if-body-end-lt2.true) ∙ c.loop-done.invariant.1
-
 -- what one line adds
-turn : (c : After-add_line) (n : ℕ) → n ≡ line_length (take (length c.args.body.now - (c.loop-done.end + 2)) (drop (c.loop-done.end + 2) c.args.body.now)) → gathered (table c.loop-done.fields) (fields_of (64 - c.loop-done._done) (c.loop-done.end + 2) (lines_after (drop c.loop-done.end c.args.body.now))) ≡ and_then (added (is_some c.add_line.result) (c.loop-done.end + 2) (table c.add_line.new.fields)) (λ t. gathered t (fields_of (64 - c.loop-done._done - 1) (c.loop-done.end + 2 + n + 2) (lines_after (drop (c.loop-done.end + 2 + n) c.args.body.now))))
+turn : (c : After-add_line) (n : ℕ) → n ≡ line_length (take (length c.args.body.now - (c.loop-done.end + 2)) (drop (c.loop-done.end + 2) c.args.body.now)) → gathered (table c.loop-done.fields) (fields_of (64 - c.loop-done._done) (c.loop-done.end + 2) (lines_after (drop c.loop-done.end c.args.body.now))) ≡ and_then (added c.add_line.result (table c.add_line.new.self)) (λ t. gathered t (fields_of (64 - c.loop-done._done - 1) (c.loop-done.end + 2 + n + 2) (lines_after (drop (c.loop-done.end + 2 + n) c.args.body.now))))
 turn c n is =
     let xs = c.args.body.now in
     let at = c.loop-done.end + 2 in
@@ -35,34 +24,33 @@ turn c n is =
 within : (xs : List ℕ) (at n : ℕ) → at ≤ length xs → n ≡ line_length (take (length xs - at) (drop at xs)) → at + n ≤ length xs
 within xs at n h is = omega (arith, is, line-le (take (length xs - at) (drop at xs)), ap length (take_rest xs at), length-drop at xs)
 
-pub returns-in_default : goal.returns-in_default
-returns-in_default c =
+pub returns-in_err-end : goal.returns-in_err-end
+returns-in_err-end c =
     let at = c.loop-done.end + 2 in
     let end = at + line_length (take (length c.args.body.now - at) (drop at c.args.body.now)) in
-    sym (ap (λ r. and_then (added (is_some r) at (table c.add_line.new.fields)) (λ t. gathered t (fields_of (64 - c.loop-done._done - 1) (end + 2) (lines_after (drop end c.args.body.now))))) c.in_default.is)
-    ∙ sym (turn (goal.at.returns-in_default c).After-add_line _ refl)
+    let p = err_from_is_err_and c.from_residual.result c.from_residual.ensures.1 in
+    ap tabled p.1 ∙ ap Err p.2
+    ∙ sym (ap (λ r. and_then (added r (table c.add_line.new.self)) (λ t. gathered t (fields_of (64 - c.loop-done._done - 1) (end + 2) (lines_after (drop end c.args.body.now))))) c.in_err-end.was)
+    ∙ sym (turn (goal.at.returns-in_err-end c).After-add_line _ refl)
     ∙ c.loop-done.invariant.1
 
 pub overflow_add-end : goal.overflow_add-end
-overflow_add-end c = omega (arith, within c.args.body.now (c.loop-done.end + 2) c.in-Some.n (omega (arith, c.if-body-end-lt2.false)) c.in-Some.ensures.long)
+overflow_add-end c = omega (arith, within c.args.body.now (c.loop-done.end + 2) c.in_ok-end.field-0 (omega (arith, c.if-body-end-lt2.false)) c.in_ok-end.ensures.long)
 
 pub loop-done-preserved : goal.loop-done-preserved
 loop-done-preserved c =
     let xs = c.args.body.now in
     let at = c.loop-done.end + 2 in
-    let end = at + c.in-Some.n in
-    let now' = table c.add_line.new.fields in
+    let end = at + c.in_ok-end.field-0 in
+    let now' = table c.add_line.new.self in
     let less : 64 - (c.loop-done._done + 1) ≡ 64 - c.loop-done._done - 1 = omega arith in
     let rest = lines_after (drop end xs) in (
-      within xs at c.in-Some.n (omega (arith, c.if-body-end-lt2.false)) c.in-Some.ensures.long,
+      within xs at c.in_ok-end.field-0 (omega (arith, c.if-body-end-lt2.false)) c.in_ok-end.ensures.long,
       ap (λ m. gathered now' (fields_of m (end + 2) rest)) less
-          ∙ sym (ap (λ r. and_then (added (is_some r) at now') (λ t. gathered t (fields_of (64 - c.loop-done._done - 1) (end + 2) rest))) c.in-Some.is)
-          ∙ sym (turn (goal.at.loop-done-preserved c).After-add_line c.in-Some.n c.in-Some.ensures.long)
+          ∙ sym (ap (λ r. and_then (added r now') (λ t. gathered t (fields_of (64 - c.loop-done._done - 1) (end + 2) rest))) c.in_ok-end.was)
+          ∙ sym (turn (goal.at.loop-done-preserved c).After-add_line c.in_ok-end.field-0 c.in_ok-end.ensures.long)
           ∙ c.loop-done.invariant.1,
     )
-
-pub returns-then-body-end-lt2-2 : goal.returns-then-body-end-lt2-2
-returns-then-body-end-lt2-2 c = sym (gather_none c.args.body.now c.loop-done.end (64 - c.loop-done._done) (table c.loop-done.fields) c.if-body-end-lt2-2.true) ∙ c.loop-done.invariant.1
 
 pub returns-else-body-end-lt2-2 : goal.returns-else-body-end-lt2-2
 returns-else-body-end-lt2-2 c =

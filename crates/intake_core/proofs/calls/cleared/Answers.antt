@@ -1,5 +1,4 @@
-use Rattle.std.proofs.Common.{◌≡◌, ◌≢◌, ◌∙◌, subst, arith, below_more}
-use Rattle.intake_core.specs.Worlds.{Changed, clearings}
+use Rattle.std.proofs.Common.{◌≢◌, ◌∙◌, arith, below_more}
 use Rattle.intake_core.proofs.Changes.{clearings-more}
 use Rattle.intake_core.proofs.calls.cleared.Goals as goal
 
@@ -9,12 +8,3 @@ loop-i-preserved g c = (
   (λ n. c.clear.ensures.cleared.names n ∙ c.loop-i.invariant.1 n),
   clearings-more _ _ _ _ c.loop-i.i c.loop-i.invariant.2 c.clear.ensures.account,
 )
-
-pub returns : goal.returns
-returns g c =
-    let all : c.loop-i.i ≡ 16 = omega arith in
-    record {
-      names = c.loop-i.invariant.1;
-      account = subst (λ k. Changed g.S.Store.made c.args.store (clearings k) c.loop-i.store) all c.loop-i.invariant.2;
-      emptied = λ i h. c.loop-i.invariant.0 i (omega arith);
-    }

@@ -1,4 +1,4 @@
-use mathlib.Core.Path.{◌∙◌}
+use Rattle.std.proofs.Common.{◌∙◌}
 use Rattle.outcome.proofs.Reports.{apart}
 use Rattle.outcome.proofs.Outcome.report.Goals as goal
 

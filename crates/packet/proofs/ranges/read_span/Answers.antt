@@ -10,20 +10,20 @@ pub returns-in_err-last : goal.returns-in_err-last
 unfolding span_of
 returns-in_err-last c =
     c.from_residual-in_err-last.ensures
-    ∙ ap (last_of c.in_ok-first.first.number) c.in_err-last.ensures
+    ∙ ap (last_of c.in_ok-first.first) c.in_err-last.ensures
     ∙ ap first_of c.in_ok-first.ensures
 
 pub returns-in_err-total : goal.returns-in_err-total
 unfolding span_of
 returns-in_err-total c =
     c.from_residual-in_err-total.ensures
-    ∙ ap (total_of c.in_ok-first.first.number c.in_ok-last.last.number) c.in_err-total.ensures
-    ∙ ap (last_of c.in_ok-first.first.number) c.in_ok-last.ensures
+    ∙ ap (total_of c.in_ok-first.first c.in_ok-last.last) c.in_err-total.ensures
+    ∙ ap (last_of c.in_ok-first.first) c.in_ok-last.ensures
     ∙ ap first_of c.in_ok-first.ensures
 
 pub returns : goal.returns
 unfolding span_of
 returns c =
-    ap (total_of c.in_ok-first.first.number c.in_ok-last.last.number) c.in_ok-total.ensures
-    ∙ ap (last_of c.in_ok-first.first.number) c.in_ok-last.ensures
+    ap (total_of c.in_ok-first.first c.in_ok-last.last) c.in_ok-total.ensures
+    ∙ ap (last_of c.in_ok-first.first) c.in_ok-last.ensures
     ∙ ap first_of c.in_ok-first.ensures

@@ -1,13 +1,15 @@
-use Rattle.std.proofs.Common.{◌≡◌, ℕ, ◌+◌, ◌-◌, ◌/◌, ◌<◌, ◌≤◌, length, get_or}
+use Rattle.std.proofs.Common.{◌≡◌, ℕ, ◌+◌, ◌-◌, ◌<◌, length, slice_index}
 use Rattle.page_store.specs.Bytes.{place}
-use Rattle.page_store.specs.Pages.{pages_of}
+use Rattle.page_store.specs.Owners.{pages_in}
 use Rattle.page_store.proofs.transfer.read.Given as goal
 
-abbrev pub invariant-loop-done : goal.invariant-loop-done
-invariant-loop-done l =
-    (l.done ≤ length l.initial.out)
-    × (l.done < length l.initial.out → (l.page ≡ get_or (pages_of l.table.next l.table.chains l.owner) ((l.at + l.done) / 4096) 0) × (l.page < l.table.pages))
-    × ((j : ℕ) → j < l.done → get_or l.out j 0 ≡ get_or l.region (place (pages_of l.table.next l.table.chains l.owner) (l.at + j)) 0)
-
-abbrev pub decreases-loop-done : goal.decreases-loop-done
-decreases-loop-done l = length l.initial.out - l.done
+abbrev pub invariant-loop-part : goal.invariant-loop-part
+invariant-loop-part l = record {
+  can : (goal.iterator-loop-part).can_next l.part-iterator;
+  ends : (goal.iterator-loop-part).is_finite l.part-iterator;
+  table : l.part-iterator.table.now ≡ l.fn.walk.table.now;
+  owner : l.part-iterator.owner ≡ l.fn.walk.owner;
+  start : l.part-iterator.start ≡ l.fn.walk.start;
+  end : l.part-iterator.end ≡ l.fn.walk.start + length l.initial.out;
+  filled : (j : ℕ) → j < l.part-iterator.at - l.fn.walk.start → slice_index l.out j ≡ slice_index l.region (place (pages_in l.fn.walk.table.now l.fn.walk.owner) (l.fn.walk.start + j));
+}

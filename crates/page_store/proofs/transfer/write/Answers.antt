@@ -1,60 +1,28 @@
-use Rattle.std.proofs.Common.{◌≡◌, ℕ, ◌+◌, ◌-◌, ◌*◌, ◌/◌, ◌%◌, List, length, get_or, take, drop, sym, ap, ◌∙◌, subst, add-zero, arith}
-use Rattle.page_store.specs.Bytes.{Written}
-use Rattle.page_store.specs.Pages.{pages_of}
+use Rattle.std.proofs.Common.{ℕ, refl, ◌-◌, List, ◌∙◌, subst, arith}
 use Rattle.std.proofs.lemmas.List.{take_all}
-use Rattle.page_store.specs.Moves.{count-le}
-use Rattle.page_store.specs.Tables.{sound-of, count-is, pages-of, first_below, Piece, piece}
-use Rattle.page_store.specs.Places.{written_none, written_step}
+use Rattle.page_store.specs.Bytes.{Written}
+use Rattle.page_store.specs.Owners.{pages_in}
+use Rattle.page_store.proofs.Walks.{written-next}
 use Rattle.page_store.proofs.transfer.write.Goals as goal
-use Rattle.page_store.proofs.transfer.write.Goals.{After-min-n}
 
-turn : (c : After-min-n) → Piece c.args.table.now c.args.owner c.args.at c.loop-done.done c.min-n.result (length c.args.bytes.now) c.loop-done.page
-turn c =
-    piece c.args.table.now c.args.owner c.args.at c.loop-done.done c.min-n.result (length c.args.bytes.now) c.loop-done.page c.requires.owner c.requires.reach.within
-    (omega (arith, c.loop-done-test.true)) c.min-n.ensures (c.loop-done.invariant.1 (omega (arith, c.loop-done-test.true)))
-
-pub overflow_add-offset : goal.overflow_add-offset
-overflow_add-offset c = omega (arith, c.requires.reach.within, count-le _ _ _ (sound-of c.args.table.now) c.args.owner c.requires.owner, c.args.table.now.few, c.loop-done.invariant.0)
-
-pub overflow_mul-from : goal.overflow_mul-from
-overflow_mul-from c = omega (arith, (c.loop-done.invariant.1 (omega (arith, c.loop-done-test.true))).1, c.args.table.now.few)
-
-pub overflow_add-from : goal.overflow_add-from
-overflow_add-from c = omega (arith, (c.loop-done.invariant.1 (omega (arith, c.loop-done-test.true))).1, c.args.table.now.few)
-
-pub overflow_add-from-in-loop-done : goal.overflow_add-from-in-loop-done
-overflow_add-from-in-loop-done c = let p = turn (goal.at.overflow_add-from-in-loop-done c).After-min-n in omega (arith, p.ends, p.small)
-
-pub slice_bounds-copy_from_slice-end : goal.slice_bounds-copy_from_slice-end
-slice_bounds-copy_from_slice-end c = let p = turn (goal.at.slice_bounds-copy_from_slice-end c).After-min-n in omega (arith, p.ends, c.requires.region, c.loop-done.auto.region)
-
-pub offset_bounds-table-page : goal.offset_bounds-table-page
-offset_bounds-table-page c = omega (arith, (c.loop-done.invariant.1 (omega (arith, c.loop-done-test.true))).1, c.args.table.now.few)
-
-pub bounds-table-page : goal.bounds-table-page
-bounds-table-page c = omega (arith, (c.loop-done.invariant.1 (omega (arith, c.loop-done-test.true))).1, c.args.table.now.few)
-
-pub loop-done-init : goal.loop-done-init
-loop-done-init c =
-    let first = first_below c.args.table.now c.args.owner c.args.at c.args.first (length c.args.bytes.now) c.requires.owner c.requires.reach in
-    (omega arith, λ _. (c.requires.reach.start ∙ (ap (λ (x : ℕ). get_or (pages_of c.args.table.now.next c.args.table.now.chains c.args.owner) (x / 4096) 0) (sym (add-zero c.args.at))), first), written_none _ _ _ c.args.bytes.now)
-
-pub loop-done-preserved : goal.loop-done-preserved
-loop-done-preserved c =
-    let p = turn (goal.at.loop-done-preserved c).After-min-n in
-    let t = c.args.table.now in
-    let from = c.loop-done.page * 4096 + (c.args.at + c.loop-done.done) % 4096 in
-    let copied : c.copy_from_slice.new.self ≡ take c.min-n.result (drop c.loop-done.done c.args.bytes.now) =
-    c.copy_from_slice.ensures.after ∙ ap (λ (x : ℕ). take x (drop c.loop-done.done c.args.bytes.now)) (omega arith) in (
-      p.left,
-      p.goes,
-      written_step t.pages (pages_of t.next t.chains c.args.owner) (pages-of t c.args.owner c.requires.owner)
-          c.args.region.now c.args.bytes.now c.loop-done.region c.args.at c.loop-done.done c.min-n.result from
-          c.requires.region (omega (arith, c.requires.reach.within, count-is t c.args.owner)) p.left p.fit p.is
-          (from + c.min-n.result - from) c.copy_from_slice.new.self (omega arith) copied p.some c.loop-done.invariant.2,
-    )
+pub loop-part-preserved : goal.loop-part-preserved
+loop-part-preserved c =
+    let v = c.loop-part.invariant in
+    let g = c.in-Some.ensures.steps in
+    record {
+      can = tt;
+      ends = tt;
+      table = g.table ∙ v.table;
+      owner = g.owner ∙ v.owner;
+      start = g.start ∙ v.start;
+      end = g.end ∙ v.end;
+      put = written-next c.args.walk.table.now c.args.walk.owner c.args.walk.start _ c.loop-part.part-iterator (c.in-Some.part, c.in-Some.place) c.next.new.self g
+          c.args.walk.owned v.table v.owner v.start v.end c.args.region.now c.args.bytes.now c.loop-part.region c.copy_from_slice.new.self refl c.requires.region
+          c.copy_from_slice.ensures.after v.put;
+    }
 
 pub returns : goal.returns
 returns c =
-    subst (λ (x : List ℕ). Written c.args.region.now (pages_of c.args.table.now.next c.args.table.now.chains c.args.owner) c.args.at x c.loop-done.region)
-    (take_all c.loop-done.done c.args.bytes.now c.loop-done-test.false) c.loop-done.invariant.2
+    let v = c.loop-part.invariant in
+    subst (λ (x : List ℕ). Written c.args.region.now (pages_in c.args.walk.table.now c.args.walk.owner) c.args.walk.start x c.loop-part.region)
+    (take_all (c.loop-part.part-iterator.at - c.args.walk.start) c.args.bytes.now (omega (arith, c.in-None.ensures.steps.0, v.end, v.start))) v.put

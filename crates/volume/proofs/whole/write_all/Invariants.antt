@@ -4,4 +4,4 @@ use Rattle.volume.specs.Writes.{Packed}
 use Rattle.volume.proofs.whole.write_all.Given as goal
 
 abbrev pub invariant-loop-index : goal.invariant-loop-index
-invariant-loop-index l = Packed l.initial.region (map seen (take l.index l.bundles)) l.region l.used
+invariant-loop-index l = Packed l.initial.region (map seen (take l.index-counter l.bundles)) l.region l.used

@@ -6,8 +6,8 @@ use Rattle.volume.specs.Writes.{Put, refusal}
 use Rattle.volume.proofs.Puts.{Allowed, allowed, put-at, put-pasted, written}
 use Rattle.volume.proofs.write.append_within.Goals as goal
 
-pub returns : goal.returns
-returns c =
+pub returns-clause-done : goal.returns-clause-done
+returns-clause-done c =
     let region = c.args.region.now in
     let name = c.args.name.now in
     let from = c.args.entity.start in
@@ -17,8 +17,8 @@ returns c =
     let end = c.close-end.result in
     let entity = take len (drop from region) in
     let mid = c.copy_within.new.self in
-    let raw : None ≡ refusal c.lies_before-before.result (length region) (base + used) len (length name) = c.in_default.ensures in
-    let verdict : None ≡ refusal (leb (from + len) base) (length region) (base + used) len (length name) = raw ∙ ap (λ t. refusal t (length region) (base + used) len (length name)) c.lies_before-before.ensures in
+    let raw : None ≡ refusal c.ends_by-before.result (length region) (base + used) len (length name) = c.in_ok-judge.ensures in
+    let verdict : None ≡ refusal (leb (from + len) base) (length region) (base + used) len (length name) = raw ∙ ap (λ t. refusal t (length region) (base + used) len (length name)) c.ends_by-before.ensures in
     let ok = allowed (leb (from + len) base) (length region) (base + used) len (length name) (sym verdict) in
     let before : from + len ≤ base = leb-true (from + len) base ok.lies in
     let there : len ≤ length (drop from region) = omega (arith, length-drop from region, ok.room) in
@@ -29,9 +29,5 @@ returns c =
     let closed : Put mid (base + used + len) (name ++ trailer (length entity + length name) (length name)) c.close-end.new.region end =
     subst (λ k. Put mid (base + used + len) (name ++ trailer (k + length name) (length name)) c.close-end.new.region end) (sym long) c.close-end.ensures in
     let whole : end ≡ base + (end - base) = omega (arith, c.close-end.ensures.ends) in
-    record {
-      verdict = verdict;
-      done =
-          written region mid c.close-end.new.region entity name base used (base + used + len) (end - base) (leb (from + len) base) (omega arith)
-          (subst (λ k. Allowed (leb (from + len) base) (length region) (base + used) k (length name)) (sym long) ok) copied (put-at refl whole closed);
-    }
+    written region mid c.close-end.new.region entity name base used (base + used + len) (end - base) (leb (from + len) base) (omega arith)
+    (subst (λ k. Allowed (leb (from + len) base) (length region) (base + used) k (length name)) (sym long) ok) copied (put-at refl whole closed)

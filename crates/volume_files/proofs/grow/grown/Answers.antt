@@ -24,15 +24,15 @@ behind old zeros region after b n end e long v a =
       is = record { each = All-push Proper v.bundles b v.volume.each a.proper; is = bytes ∙ ap (λ l. l ++ bytes_of b) v.volume.is ∙ flat_map_more bytes_of [] v.bundles b };
     }
 
-pub returns-in-Ok-append : goal.returns-in-Ok-append
-returns-in-Ok-append c =
+pub returns : goal.returns
+returns c =
     let old = c.args.old.now in
-    let region = c.in-Ok.region in
+    let region = c.in_ok-region.region in
     let b = seen c.args.bundle in
-    let wide = c.in-Ok.ensures in
+    let wide = c.in_ok-region.ensures in
     let lent = c.as_mut_slice.ensures in
     let after = c.append.new.region in
     let long : length after ≡ vec_len region = c.append.auto.region ∙ lent.len in
     let same : take (vec_len region) (after ++ drop (length after) (vec_items region)) ≡ after = take_at after _ (vec_len region) long in
     subst (Added old b) (sym same)
-    (behind old (replicate (size_with old b - length old) 0) c.as_mut_slice.result.now after b c.in_default.field-0 c.in-Ok-append.field-0 (lent.value ∙ wide.0) (lent.len ∙ wide.1) c.in_default.ensures.exact c.in-Ok-append.ensures.done)
+    (behind old (replicate (size_with old b - length old) 0) c.as_mut_slice.result.now after b c.in_ok-check.field-0 c.in_ok-append.field-0 (lent.value ∙ wide.0) (lent.len ∙ wide.1) c.in_ok-check.ensures.exact c.in_ok-append.ensures.done)

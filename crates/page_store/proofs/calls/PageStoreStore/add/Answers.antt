@@ -1,37 +1,23 @@
-use Rattle.std.proofs.Common.{◌≡◌, ℕ, ◌<◌, ◌≤◌, List, [], length, sym, subst, ⊎_elim, arith}
-use Rattle.std.proofs.lemmas.Bool.{le-leb, cases_lt}
+use Rattle.std.proofs.Common.{rules, ◌≡◌, ℕ, ◌<◌, List, length, sym, subst}
 use Rattle.std.proofs.lemmas.List.{nil_from_length}
 use Rattle.store.specs.Meaning.{Added}
 use Rattle.page_store.specs.Store.{meaning_of, Adding}
-use Rattle.page_store.specs.Stores.{added, added_none, adding-none, room_in, room_out}
+use Rattle.page_store.specs.Stores.{added, added_none, adding-none}
 use Rattle.page_store.proofs.calls.PageStoreStore.add.Goals as goal
 
-pub put-requires : goal.put-requires
-put-requires c =
-    let s = c.args.self.now in
-    let le : length c.args.bytes.now ≤ (meaning_of s).room c.args.slot = omega (arith, c.if-bytes-room.false, c.room.ensures) in
-    let h : c.args.slot < 16 = ⊎_elim (λ l. l) (λ g. let z = room_out s c.args.slot g in absurd (omega (arith, c.if-bytes-gt0.true))) (cases_lt c.args.slot 16) in
-    record { slot = h; some = c.if-bytes-gt0.true; room = subst (λ (x : ℕ). length c.args.bytes.now ≤ x) (room_in s c.args.slot h) le }
+pub returns-then-not-is_empty-clause-added : goal.returns-then-not-is_empty-clause-added
+returns-then-not-is_empty-clause-added c =
+    let h : c.args.slot < 16 = search rules in
+    added c.args.self.now c.put.new.self c.args.slot c.args.bytes.now c.put.ensures h
 
-pub returns-then-bytes-gt0 : goal.returns-then-bytes-gt0
-returns-then-bytes-gt0 c =
+pub returns-else-not-is_empty-clause-added : goal.returns-else-not-is_empty-clause-added
+returns-else-not-is_empty-clause-added c =
     let s = c.args.self.now in
-    let le : length c.args.bytes.now ≤ (meaning_of s).room c.args.slot = omega (arith, c.if-bytes-room.false, c.room.ensures) in
-    let h : c.args.slot < 16 = ⊎_elim (λ l. l) (λ g. let z = room_out s c.args.slot g in absurd (omega (arith, c.if-bytes-gt0.true))) (cases_lt c.args.slot 16) in
-    record {
-      verdict = sym (le-leb (length c.args.bytes.now) ((meaning_of s).room c.args.slot) le);
-      added = added s c.put.new.self c.args.slot c.args.bytes.now c.put.ensures h;
-      account = c.put.ensures;
-      refused = tt;
-    }
+    let n : length c.args.bytes.now ≡ 0 = search rules in
+    subst (λ (x : List ℕ). Added (meaning_of s) c.args.slot x (meaning_of s)) (sym (nil_from_length c.args.bytes.now n)) (added_none s c.args.slot)
 
-pub returns-else-bytes-gt0 : goal.returns-else-bytes-gt0
-returns-else-bytes-gt0 c =
+pub returns-else-not-is_empty-clause-account : goal.returns-else-not-is_empty-clause-account
+returns-else-not-is_empty-clause-account c =
     let s = c.args.self.now in
-    let e : [] ≡ c.args.bytes.now = sym (nil_from_length c.args.bytes.now (omega (arith, c.if-bytes-gt0.false))) in
-    record {
-      verdict = sym (le-leb (length c.args.bytes.now) ((meaning_of s).room c.args.slot) (omega (arith, c.if-bytes-gt0.false)));
-      added = subst (λ (x : List ℕ). Added (meaning_of s) c.args.slot x (meaning_of s)) e (added_none s c.args.slot);
-      account = subst (λ (x : List ℕ). Adding s c.args.slot x s) e (adding-none s c.args.slot);
-      refused = tt;
-    }
+    let n : length c.args.bytes.now ≡ 0 = search rules in
+    subst (λ (x : List ℕ). Adding s c.args.slot x s) (sym (nil_from_length c.args.bytes.now n)) (adding-none s c.args.slot)

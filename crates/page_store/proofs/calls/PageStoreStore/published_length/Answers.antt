@@ -7,4 +7,4 @@ use Rattle.page_store.proofs.calls.PageStoreStore.published_length.Goals as goal
 pub returns : goal.returns
 returns c =
     let s = c.args.self.now in
-    sym (ap (λ (o : Option ℕ). length_of (published_at s o)) (sym c.in_ok-row.ensures) ∙ ap Some (length-bytes s (16 + c.in_ok-row.row)))
+    sym (ap (λ (o : Option ℕ). length_of (published_at s o)) (sym c.in_ok-row.ensures.row) ∙ ap Some (length-bytes s (16 + c.in_ok-row.row)))

@@ -1,4 +1,4 @@
-use Rattle.std.proofs.Common.{◌≡◌, ℕ, ◌+◌, ◌*◌, List, length, sym, refl, ap, ◌∙◌, subst, arith}
+use Rattle.std.proofs.Common.{◌≡◌, ℕ, ◌+◌, ◌*◌, length, sym, refl, ap, ◌∙◌, subst, arith}
 use Rattle.std.proofs.lemmas.List.{length-set, with_items_is}
 use Rattle.page_store.specs.Bytes.{Written}
 use Rattle.page_store.specs.Pages.{pages_of}
@@ -17,7 +17,6 @@ invariant_of-self c =
       held = length-set s.lengths c.args.slot v ∙ s.held;
       rows = s.rows;
       sparing = sparing-set s c.args.slot c.requires.slot v c.reserve-first.new.self.chains (f.enough, f.needed) (λ j h ne. d.counts j ne (omega arith));
-      short = s.short;
       nothing = nothing-set s c.args.slot c.requires.slot v;
       single = s.single;
     }
@@ -29,7 +28,7 @@ returns c =
     let was : c.deref_mut.result.now ≡ s.region.items = c.deref_mut.ensures.value in
     let long : length c.write.new.region ≡ s.region.len = c.write.ensures.long ∙ (ap length was ∙ sym s.region.ok.0) in
     let w : Written s.region.items (pages_of u.next u.chains c.args.slot) (length_of s.lengths c.args.slot) c.args.bytes.now c.write.new.region =
-    subst (λ (r : List ℕ). Written r (pages_of u.next u.chains c.args.slot) (length_of s.lengths c.args.slot) c.args.bytes.now c.write.new.region) was c.write.ensures in
+    rw (c.new-walk.ensures.table, c.new-walk.ensures.owner, c.new-walk.ensures.start, was) at c.write.ensures in
     record {
       region = subst (Written s.region.items (pages_of u.next u.chains c.args.slot) (length_of s.lengths c.args.slot) c.args.bytes.now) (sym (with_items_is s.region c.write.new.region long)) w;
       pages = c.reserve-first.ensures.moved;

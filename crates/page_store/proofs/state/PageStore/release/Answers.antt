@@ -14,7 +14,6 @@ invariant_of-self c =
       held = length-set s.lengths c.args.slot 0 ∙ s.held;
       rows = s.rows;
       sparing = sparing-set s c.args.slot c.requires 0 c.splice.new.self.chains (omega arith, omega arith) (λ j h ne. d.counts j (omega arith) ne);
-      short = s.short;
       nothing = nothing-set s c.args.slot c.requires 0;
       single = s.single;
     }

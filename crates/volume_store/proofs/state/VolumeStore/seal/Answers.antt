@@ -1,13 +1,13 @@
-use Rattle.std.proofs.Common.{◌≡◌, ℕ, ◌*◌, List, [], ◌∷◌, ◌++◌, length, take, drop, sym, refl, ap, ◌∙◌, subst, arith}
+use Rattle.std.proofs.Common.{Some, None, ◌≡◌, ℕ, ◌*◌, List, [], ◌∷◌, ◌++◌, length, take, drop, sym, refl, ap, ◌∙◌, subst, arith}
 use Rattle.std.specs.Vec.{with_items}
-use Rattle.std.proofs.lemmas.List.{length-set, with_items_is}
+use Rattle.std.proofs.lemmas.List.{with_items_is}
 use Rattle.volume.specs.Bundles.{Bundle, Volume}
 use Rattle.volume.specs.Writes.{Appended}
 use Rattle.volume_store.specs.declared.state.VolumeStore.{VolumeStore}
 use Rattle.volume_store.specs.Readings.{Holds, reading}
 use Rattle.volume_store.specs.State.{length_of, volume_bytes}
 use Rattle.volume_store.specs.Store.{items, volume_of, bundles, slot_bytes}
-use Rattle.volume_store.specs.Stores.{within-set, length-items, publishing-is, not-refused, some-none}
+use Rattle.volume_store.specs.Stores.{within-set, length-items, publishing-is, not-refused}
 use Rattle.volume_store.proofs.state.VolumeStore.seal.Goals as goal
 use Rattle.volume_store.proofs.state.VolumeStore.seal.Goals.{In-Ok}
 
@@ -34,25 +34,24 @@ module _ (c : In-Ok) where
             (appended.volume (bundles s) (reading (volume_of s) s.volume).1),
       ) ∣₁
 
-pub invariant_of-self : goal.invariant_of-self
-invariant_of-self c =
-    let s = c.args.self.now in
-    let o = (goal.at.invariant_of-self c).In-Ok in
-    record {
-      held = length-set s.lengths c.args.slot 0 ∙ s.held;
-      within = within-set s c.args.slot 0 c.requires.slot (omega arith);
-      fits = omega (arith, (appended o).fits, length-items s);
-      volume = holds o;
-    }
+pub invariant_of-self-clause-fits : goal.invariant_of-self-clause-fits
+invariant_of-self-clause-fits c = omega (arith, (appended (goal.at.invariant_of-self-clause-fits c).In-Ok).fits, length-items c.args.self.now)
+
+pub invariant_of-self-clause-volume : goal.invariant_of-self-clause-volume
+invariant_of-self-clause-volume c = holds (goal.at.invariant_of-self-clause-volume c).In-Ok
 
 pub unreachable-requires : goal.unreachable-requires
 unreachable-requires c =
     let s = c.args.self.now in
-    some-none c.in-Err.field-0
-    (c.in-Err.ensures.verdict ∙ not-refused s c.args.slot c.args.name.now (length c.deref_mut.result.now) c.requires (ap length c.deref_mut.ensures.value ∙ length-items s))
+    let e : Some c.in_default.field-0 ≡ None =
+    c.in_default.ensures.verdict ∙ not-refused s c.args.slot c.args.name.now (length c.deref_mut.result.now) c.requires (ap length c.deref_mut.ensures.value ∙ length-items s) in
+    cc
 
 pub returns : goal.returns
 returns c =
     let s = c.args.self.now in
     let o = (goal.at.returns c).In-Ok in
     publishing-is s _ c.args.slot c.args.name.now c.append_within.new.region (held_by o) refl refl (appended o)
+
+pub invariant_of-self-clause-within : goal.invariant_of-self-clause-within
+invariant_of-self-clause-within c = within-set c.args.self.now c.args.slot 0 c.requires.slot (omega arith)

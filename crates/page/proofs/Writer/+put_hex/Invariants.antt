@@ -1,0 +1,4 @@
+use Rattle.page.proofs.Writer.+put_hex.Given as goal
+
+abbrev pub decreases-put_hex : goal.decreases-put_hex
+decreases-put_hex l = l.digits
