@@ -62,7 +62,7 @@ began meaning made input out k (suc n) used told serials l (at, before, m, so, l
 
 module _ {S : Type 0} {meaning : S → Meaning} {made : S → Change → S → Type 0} {input out : List ℕ} {k : Intake S} where
   -- one message more
-  step : {used put : ℕ} {cur : List ℕ} {l m : Intake S} {own size : ℕ} {ack serials page : List ℕ}
+  pub step : {used put : ℕ} {cur : List ℕ} {l m : Intake S} {own size : ℕ} {ack serials page : List ℕ}
       → Gone meaning made input out k used put [] cur l
       → Turn meaning made (length (mid_of put (length cur - put) cur)) (mid_of used (length input - used) input) l own ack serials m
       → own ≤ length (mid_of used (length input - used) input)

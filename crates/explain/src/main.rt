@@ -15,6 +15,7 @@ fn shown_line(input: &[u8], at: usize) -> Shown<'_, false> {
     let rest = input.get(at..).unwrap_or(&[]);
     let length = rest
         .windows(2)
+        .take(MOST_SHOWN)
         .position(|w| w == b"\r\n".as_slice())
         .unwrap_or(rest.len());
     Shown(&rest[..length.min(MOST_SHOWN)])

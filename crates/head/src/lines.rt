@@ -60,9 +60,13 @@ pub(crate) fn read_field(at: usize, rest: &[u8]) -> Option<Field<'_>>
     ensures long { IfSome result (λ f. f.length ≡ line_length rest.now) }
 {
     let (name, rest) = rest.split_at(text::lead(Kind::Name, rest));
+    // asked first, so that no value is measured behind no name
+    if name.is_empty() {
+        return None;
+    }
     let after = rest.strip_prefix(b":")?;
     let (value, rest) = after.split_at(text::lead(Kind::Value, after));
-    if name.is_empty() || !is_end(rest) {
+    if !is_end(rest) {
         return None;
     }
     let length = name.len() + 1 + value.len();

@@ -2,7 +2,7 @@
 use crate::requests::{PATH, Part, close, create, fragment, ping};
 use crate::shown::{show, show_lines};
 use ack::LEAST_PAGE;
-use anyhow::{Context, anyhow};
+use anyhow::anyhow;
 use desk::{Settled, settle};
 use intake_core::{BadSetting, Intake, Notice, Reply, Verdict};
 use page_store::PageStore;
@@ -89,11 +89,14 @@ impl<S: Store> Case<'_, S> {
         self.send_on(what, input, &mut [0; LEAST_PAGE], RECEIVED)
     }
 
-    // Sends a fragment that makes its bundle whole, and gives the notice that it hands out.
+    // Sends a fragment that makes its bundle whole, and gives the notice that it hands out. Where the line about it
+    // cannot be written, that is told as a notice that is not there.
     fn hand_in(&mut self, input: &[u8]) -> anyhow::Result<Notice> {
         let reply = self.intake.message(input, &mut [0; LEAST_PAGE]);
-        self.show("a whole bundle, for the approver", reply)?
-            .context("no notice")
+        match self.show("a whole bundle, for the approver", reply) {
+            Ok(Some(notice)) => Ok(notice),
+            Ok(None) | Err(_) => Err(anyhow!("no notice")),
+        }
     }
 
     // The approver's answer, and what its acknowledgement says of the bytes received, the reply address and the error.
@@ -109,8 +112,10 @@ impl<S: Store> Case<'_, S> {
     fn rule_short(&mut self, notice: Notice) -> anyhow::Result<Notice> {
         let mut page = [0; LEAST_PAGE - 1];
         let reply = self.intake.answer(notice, Verdict::Yes(b""), &mut page);
-        self.show("a yes, page of 1,023 bytes", reply)?
-            .context("the notice is lost")
+        match self.show("a yes, page of 1,023 bytes", reply) {
+            Ok(Some(notice)) => Ok(notice),
+            Ok(None) | Err(_) => Err(anyhow!("the notice is lost")),
+        }
     }
 
     fn tick(&mut self, reading: u64) -> anyhow::Result<()> {

@@ -7,11 +7,11 @@ use Rattle.session.specs.Rules.{create_fault, is_free}
 use Rattle.session.specs.Plans.{refuse, create, unless, in_row, stands, create_plan}
 use Rattle.session.specs.declared.records.Settings.{Settings}
 
-stands-told : (o : Option (List ℕ)) → is_some (length_of o) ≡ is_some o
+pub stands-told : (o : Option (List ℕ)) → is_some (length_of o) ≡ is_some o
 stands-told (Some b) = refl
 stands-told None = refl
 
-opposite : (t r : Bool) → t ≡ not r → r ≡ not t
+pub opposite : (t r : Bool) → t ≡ not r → r ≡ not t
 opposite t true e = sym (ap not e)
 opposite t false e = sym (ap not e)
 

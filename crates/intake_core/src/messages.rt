@@ -147,16 +147,25 @@ impl<S: Store> Intake<S> {
                 notice: None,
             };
         }
-        let (acted, used) = self.receive(input).unwrap_or_else(|refused| (
-            Acted::unnoticed(refused.outcome, Call::Unread),
-            input.len(),
-        ));
-        let Acted {
-            outcome,
-            call,
-            notice,
-        } = acted;
-        let length = written(page, outcome, &call);
+        // a pattern and no closure: what was acted on is told where it lies, and not moved
+        let (outcome, used, length, notice) = match self.receive(input) {
+            Ok(
+                (
+                    Acted {
+                        outcome,
+                        call,
+                        notice,
+                    },
+                    used,
+                ),
+            ) => (outcome, used, written(page, outcome, &call), notice),
+            Err(Refused { outcome }) => (
+                outcome,
+                input.len(),
+                written(page, outcome, &Call::Unread),
+                None,
+            ),
+        };
         Reply {
             outcome,
             used,

@@ -1,7 +1,7 @@
 // What a call came to: one named case for each number, and what each reports.
 #![tactic(auto)]
 
-ghost use Rattle.std.specs.Prelude.{◌≡◌};
+ghost use Rattle.std.specs.Prelude.{◌≡◌, Some};
 ghost use Rattle.outcome.specs.Outcomes.{by, context_of, name_of, number_of, of, phrase_of, report_of};
 
 use std::fmt;
@@ -230,6 +230,8 @@ impl Layer {
 }
 
 impl fmt::Display for Layer {
+    ghost output = { λ layer. Some (name_of layer) };
+
     fn fmt<W: fmt::Write>(&self, f: &mut fmt::Formatter<W>) -> fmt::Result {
         f.write_str(self.name())
     }

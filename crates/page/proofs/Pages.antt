@@ -49,7 +49,7 @@ puts-length {p} {s} {at = at} f =
     ap length f.bytes ∙ length-append (take at p) (over (drop at p) s)
     ∙ omega (arith, length_over (drop at p) s, length-take at p, length-drop at p)
 
-puts_then : {p q r s t : List ℕ} {at mid end : ℕ} → Puts p at s q mid → Puts q mid t r end → Puts p at (s ++ t) r end
+pub puts_then : {p q r s t : List ℕ} {at mid end : ℕ} → Puts p at s q mid → Puts q mid t r end → Puts p at (s ++ t) r end
 puts_then {p = p} {s = s} {t = t} {at = at} {mid = mid} f g = record {
   bytes = g.bytes ∙ ap (λ l. take mid l ++ over (drop mid l) t) f.bytes ∙ laid_then p at mid s t f.ends;
   ends = omega (arith, f.ends, g.ends, puts-length f, length-append s t);
@@ -63,7 +63,7 @@ pub ◌then◌ : {a b c : Writer} {s t : List ℕ} → Wrote a s b → Wrote b t
 pub wrote-as : {a b : Writer} {s t : List ℕ} → s ≡ t → Wrote a s b → Wrote a t b
 wrote-as {a} {b} e f = subst (λ l. Wrote a l b) e f
 
-puts_none : (p : List ℕ) (at : ℕ) → Puts p at [] p at
+pub puts_none : (p : List ℕ) (at : ℕ) → Puts p at [] p at
 puts_none p at = record { bytes = sym (ap (λ l. take at p ++ l) (over_none (drop at p)) ∙ take-append-drop at p); ends = omega arith }
 
 pub wrote_from : {a b c : Writer} {s : List ℕ} → b ≡ a → Wrote b s c → Wrote a s c

@@ -12,7 +12,7 @@ use Rattle.page_store.specs.declared.state.PageStore.{PageStore}
 use Rattle.page_store.specs.Bytes.{content}
 use Rattle.page_store.specs.Names.{title, row_with, vacancy, standing, target}
 use Rattle.page_store.specs.Pages.{count_of, pages_of, Moved}
-use Rattle.page_store.specs.State.{length_of, Sparing, Nothing, Single}
+use Rattle.page_store.specs.State.{length_of, Sparing, Nothing, Named, Single}
 use Rattle.page_store.specs.Store.{pages_at, owned, bytes_at, entry, published_at, fits_under, row_for, meaning_of, Publishing}
 use Rattle.page_store.specs.Chains.{length-follow}
 use Rattle.page_store.specs.Rows.{First, first_of, first-is, none_of, row_with-same, title-same, vacant_of, vacancy-stands}
@@ -283,6 +283,13 @@ module _ (s : PageStore) (k e : ℕ) (n : List ℕ) (can : Can s k n e) (new : O
       ⊎_elim
       (λ q. let x : Some n ≡ None = sym named ∙ (ap (title names₂) (sym q) ∙ z) in absurd (cc))
       (λ ne. at-else (16 + f) (omega arith) (omega arith) ∙ s.nothing f h (sym (title-kept f ne) ∙ z))
+      (cases_eq f e)
+
+  pub named₂ : Named names₂
+  named₂ f m q =
+      ⊎_elim
+      (λ x. subst (λ (y : List ℕ). nameable y ≡ true) (same-name n m (sym named ∙ (ap (title names₂) (sym x) ∙ q))) can.named)
+      (λ ne. s.named f m (sym (title-kept f ne) ∙ q))
       (cases_eq f e)
 
   -- no other row has the name

@@ -8,7 +8,7 @@ use Rattle.page_store.specs.declared.state.PageStore.{PageStore}
 use Rattle.page_store.specs.Bytes.{content}
 use Rattle.page_store.specs.Names.{title, row_with}
 use Rattle.page_store.specs.Pages.{count_of}
-use Rattle.page_store.specs.State.{Sparing, Nothing, Single}
+use Rattle.page_store.specs.State.{Sparing, Nothing, Named, Single}
 use Rattle.page_store.specs.Store.{pages_at, owned, published_at, Empty, fillable}
 use Rattle.page_store.specs.Rows.{none-is}
 use Rattle.page_store.specs.Stores.{held_in, held_out}
@@ -18,7 +18,7 @@ get_or-zeros zero k = refl
 get_or-zeros (suc n) zero = refl
 get_or-zeros (suc n) (suc k) = get_or-zeros n k
 
-title-none : (m e : ℕ) → title (replicate m None) e ≡ None
+pub title-none : (m e : ℕ) → title (replicate m None) e ≡ None
 title-none zero e = refl
 title-none (suc m) zero = refl
 title-none (suc m) (suc e) = title-none m e
@@ -28,6 +28,9 @@ sparing-new chains unowned k h = let z = get_or-zeros 48 k in let u = unowned k 
 
 pub nothing-new : (names : List (Option (InlineBytes 128))) → Nothing (replicate 48 0) names
 nothing-new names e h z = get_or-zeros 48 (16 + e)
+
+pub named-new : Named (replicate 32 None)
+named-new e n q = let x : None ≡ Some n = sym (title-none 32 e) ∙ q in absurd (cc)
 
 pub single-new : Single (replicate 32 None)
 single-new e f p = absurd (p.2 (title-none 32 e))

@@ -1,6 +1,6 @@
 // A region of pages, who owns which, how many bytes each owner holds, and the names that stand.
 ghost use Rattle.std.specs.Prelude.{◌≡◌, ◌*◌, length, vec_len};
-ghost use Rattle.page_store.specs.State.{Sparing, Nothing, Single};
+ghost use Rattle.page_store.specs.State.{Sparing, Nothing, Named, Single};
 
 use crate::name::NAMES;
 use crate::table::{FREE, Table};
@@ -19,5 +19,6 @@ pub struct PageStore {
     ghost rows: { length names ≡ 32 },
     ghost sparing: { Sparing table.chains lengths },
     ghost nothing: { Nothing lengths names },
+    ghost named: { Named names },
     ghost single: { Single names },
 }

@@ -19,11 +19,16 @@ pub fn obey(rt: &HostRuntime, words: &[String]) -> io::Result<bool>
 {
     match follow(rt, words) {
         Ok(()) => Ok(true),
-        Err(trouble) => {
-            eprintln!(rt; "volume: {trouble}")?;
-            Ok(false)
-        }
+        Err(trouble) => refuse(rt, &trouble),
     }
+}
+
+// Tells a refusal: it was not done, whatever was wrong.
+fn refuse(rt: &HostRuntime, trouble: &Trouble<'_>) -> io::Result<bool>
+    ensures { IfOk result (λ done. done ≡ false) }
+{
+    eprintln!(rt; "volume: {trouble}")?;
+    Ok(false)
 }
 
 fn follow<'a>(rt: &HostRuntime, words: &'a [String]) -> Result<(), Trouble<'a>>

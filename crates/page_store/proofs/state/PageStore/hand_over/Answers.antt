@@ -1,7 +1,7 @@
 use Rattle.std.proofs.Common.{rules, Some, arith, ◌≡◌, ℕ, ◌*◌, sym, refl, ap, ◌∙◌}
 use Rattle.std.specs.Option.{option_map}
 use Rattle.inline_bytes.specs.Contents.{contents}
-use Rattle.page_store.proofs.Handing.{can-of, given, none, freed, others, named, names-kept, held₂, rows₂, sparing₂, nothing₂, single₂}
+use Rattle.page_store.proofs.Handing.{can-of, given, none, freed, others, named, names-kept, held₂, rows₂, sparing₂, nothing₂, named₂, single₂}
 use Rattle.page_store.proofs.state.PageStore.hand_over.Goals as goal
 
 pub invariant_of-self : goal.invariant_of-self
@@ -23,6 +23,7 @@ invariant_of-self c =
       rows = rows₂ s k e n can new name-is a.next a.chains d b.next b.chains f;
       sparing = sparing₂ s k e n can new name-is a.next a.chains d b.next b.chains f;
       nothing = nothing₂ s k e n can new name-is a.next a.chains d b.next b.chains f;
+      named = named₂ s k e n can new name-is a.next a.chains d b.next b.chains f;
       single = single₂ s k e n can new name-is a.next a.chains d b.next b.chains f;
     }
 

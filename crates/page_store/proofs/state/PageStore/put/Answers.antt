@@ -18,6 +18,7 @@ invariant_of-self c =
       rows = s.rows;
       sparing = sparing-set s c.args.slot c.requires.slot v c.reserve-first.new.self.chains (f.enough, f.needed) (λ j h ne. d.counts j ne (omega arith));
       nothing = nothing-set s c.args.slot c.requires.slot v;
+      named = s.named;
       single = s.single;
     }
 

@@ -15,5 +15,6 @@ invariant_of-self c =
       rows = s.rows;
       sparing = sparing-set s c.args.slot c.requires 0 c.splice.new.self.chains (omega arith, omega arith) (λ j h ne. d.counts j (omega arith) ne);
       nothing = nothing-set s c.args.slot c.requires 0;
+      named = s.named;
       single = s.single;
     }
