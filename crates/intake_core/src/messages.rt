@@ -1,7 +1,7 @@
 // A message: read, judged and acted on, and acknowledged.
-ghost use Rattle.std.specs.Prelude.{◌≡◌, ◌<◌, ◌≤◌, true, ◌++◌, map, length, drop, Result, None, IfSome, IfOk};
+ghost use Rattle.std.specs.Prelude.{◌≡◌, ◌+◌, ◌<◌, ◌≤◌, true, ◌++◌, map, length, drop, Result, None, Ok, Err, IfSome, IfOk};
 ghost use Rattle.ack.specs.Text.{ack_bytes};
-ghost use Rattle.ack.specs.Told.{handed_over};
+ghost use Rattle.ack.specs.Told.{ack_of, handed_over};
 ghost use Rattle.packet.specs.Packets.{packet_of, request};
 ghost use Rattle.outcome.specs.declared.Outcome.{Outcome};
 ghost use Rattle.session.specs.Plans.{found, plan_of, with_row};
@@ -9,6 +9,7 @@ ghost use Rattle.session.specs.Sessions.{row_of};
 ghost use Rattle.session.specs.Steps.{MessageDone, message_outcome, message_used};
 ghost use Rattle.session.specs.Told.{message_ack, message_changes, newly_away};
 ghost use Rattle.intake_core.specs.declared.faults.Refused.{Refused};
+ghost use Rattle.intake_core.specs.declared.messages.Acted.{Acted};
 ghost use Rattle.intake_core.specs.Worlds.{Acting, Changed, Received, Shows, Visited, live_plan, notice_for, noticed, outcome_in, row_in, world_of};
 
 use crate::faults::Refused;
@@ -115,15 +116,40 @@ impl<S: Store> Intake<S> {
         }
     }
 
-    // Reads a request and acts on it, and gives the bytes that are done with too.
-    fn receive(&mut self, input: &[u8]) -> Result<(Acted, usize), Refused>
-        ensures received { Received S.Store.made self.old.settings (world_of S.Store.meaning self.old) (packet_of input.now) self.old.store result (world_of S.Store.meaning self.new) self.new.store }
-        ensures within { IfOk result (λ p. p.1 ≤ length input.now) }
+    // Acts on a request that was read, and tells what it came to. A function of its own, so that a message that cannot be
+    // read does not pay for clearing the room that this needs.
+    #[inline(never)]
+    fn heed(&mut self, packet: &Packet<'_>, used: usize, page: &mut [u8]) -> Reply
+        requires used { used ≡ packet.now.head_size + length packet.now.body.now }
+        requires page { 1024 ≤ length page.old }
+        ensures heeded { (a : Acted) × Received S.Store.made self.old.settings (world_of S.Store.meaning self.old) (Ok (request packet.now)) self.old.store (Ok (a, result.used)) (world_of S.Store.meaning self.new) self.new.store × (result.outcome ≡ a.outcome) × (result.length ≡ length (ack_bytes (ack_of a.outcome a.call))) × (page.new ≡ ack_bytes (ack_of a.outcome a.call) ++ drop (length (ack_bytes (ack_of a.outcome a.call))) page.old) × (noticed result.notice ≡ noticed a.notice) }
+        ensures fits { result.length ≤ length page.old }
+        ensures settings { self.new.settings ≡ self.old.settings }
+    {
+        let Acted {
+            outcome,
+            call,
+            notice,
+        } = self.perform(packet);
+        Reply {
+            outcome,
+            used,
+            length: written(page, outcome, &call),
+            notice,
+        }
+    }
+
+    // Reads a request and acts on it.
+    fn receive(&mut self, input: &[u8], page: &mut [u8]) -> Result<Reply, Refused>
+        requires { 1024 ≤ length page.old }
+        ensures received { elim result [ Ok r ↦ (a : Acted) × Received S.Store.made self.old.settings (world_of S.Store.meaning self.old) (packet_of input.now) self.old.store (Ok (a, r.used)) (world_of S.Store.meaning self.new) self.new.store × (r.outcome ≡ a.outcome) × (r.length ≡ length (ack_bytes (ack_of a.outcome a.call))) × (page.new ≡ ack_bytes (ack_of a.outcome a.call) ++ drop (length (ack_bytes (ack_of a.outcome a.call))) page.old) × (noticed r.notice ≡ noticed a.notice) | Err e ↦ Received S.Store.made self.old.settings (world_of S.Store.meaning self.old) (packet_of input.now) self.old.store (Err e) (world_of S.Store.meaning self.new) self.new.store × (page.new ≡ page.old) ] }
+        ensures within { IfOk result (λ r. r.used ≤ length input.now) }
+        ensures fits { IfOk result (λ r. r.length ≤ length page.old) }
         ensures settings { self.new.settings ≡ self.old.settings }
     {
         let packet = read_packet(input)?;
         let used = packet.head_size + packet.body.len();
-        Ok((self.perform(&packet), used))
+        Ok(self.heed(&packet, used, page))
     }
 
     // A message, whole, damaged or broken off: one outcome, and its acknowledgement at the front of the page.
@@ -147,30 +173,14 @@ impl<S: Store> Intake<S> {
                 notice: None,
             };
         }
-        // a pattern and no closure: what was acted on is told where it lies, and not moved
-        let (outcome, used, length, notice) = match self.receive(input) {
-            Ok(
-                (
-                    Acted {
-                        outcome,
-                        call,
-                        notice,
-                    },
-                    used,
-                ),
-            ) => (outcome, used, written(page, outcome, &call), notice),
-            Err(Refused { outcome }) => (
+        match self.receive(input, page) {
+            Ok(reply) => reply,
+            Err(Refused { outcome }) => Reply {
                 outcome,
-                input.len(),
-                written(page, outcome, &Call::Unread),
-                None,
-            ),
-        };
-        Reply {
-            outcome,
-            used,
-            length,
-            notice,
+                used: input.len(),
+                length: written(page, outcome, &Call::Unread),
+                notice: None,
+            },
         }
     }
 }

@@ -9,4 +9,4 @@ pub returns-then-page-lt-LEAST_PAGE-clause-notice :
 returns-then-page-lt-LEAST_PAGE-clause-notice g c = sym (newly-none (map row_of c.args.self.now.rows))
 
 pub returns-in-Err-clause-notice : goal.returns-in-Err-clause-notice
-returns-in-Err-clause-notice g c = newly-same _ _ c.in-Err.ensures.received.3
+returns-in-Err-clause-notice g c = newly-same _ _ c.in-Err.ensures.received.0.3
